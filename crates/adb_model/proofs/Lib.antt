@@ -1,0 +1,5 @@
+pub mod Members
+pub mod Pairs
+pub mod Rising
+pub mod PlainSearch
+pub mod OneHistory

@@ -1,0 +1,15 @@
+pub mod Lists
+pub mod Account
+pub mod View
+pub mod State
+pub mod Load
+pub mod Presence
+pub mod Storages
+pub mod Call
+pub mod Outcome
+pub mod Callers
+pub mod Step
+pub mod History
+pub mod Plays
+pub mod Inside
+pub mod Seen

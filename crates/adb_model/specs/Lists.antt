@@ -1,0 +1,30 @@
+-- Words on lists that std does not have.
+use Rattle.std.specs.Prelude.{ℕ, ◌==◌, max, Bool, if◌then◌else◌, List, [], ◌∷◌, Option, Some, None, unwrap_or, fold}
+use Rattle.std.specs.List.{list_any, reduce}
+use Rattle.std.specs.Ordering.{is_lt, is_eq}
+use Rattle.std.specs.declared.cmp.Ordering.{Ordering}
+
+-- whether the number is in the list
+abbrev pub among : ℕ → List ℕ → Bool
+among n numbers = list_any (λ x. x == n) numbers
+
+-- the greatest of the numbers
+abbrev pub greatest : List ℕ → Option ℕ
+greatest numbers = reduce max numbers
+
+-- the last element
+abbrev pub last : {A : Type 0} → List A → Option A
+last [] = None
+last (x ∷ xs) = Some (unwrap_or (last xs) x)
+
+-- the rising list with one more element, unless it has it
+abbrev pub placed : {A : Type 0} → (A → A → Ordering) → A → List A → List A
+placed cmp x [] = x ∷ []
+placed cmp x (y ∷ ys) =
+    if is_lt (cmp x y) then x ∷ y ∷ ys
+    else if is_eq (cmp x y) then y ∷ ys
+    else y ∷ placed cmp x ys
+
+-- the elements, rising and each once
+abbrev pub rising : {A : Type 0} → (A → A → Ordering) → List A → List A
+rising cmp xs = fold (λ ys x. placed cmp x ys) [] xs

@@ -1,0 +1,62 @@
+-- What the program's values stand for in the plain machine: an `Arc` stands for what it holds, a key for its bytes.
+use Rattle.std.specs.Prelude.{ℕ, List, map}
+use Rattle.std.specs.declared.sync.Arc.{Arc}
+use Rattle.std.specs.Global.{Global}
+use Rattle.adb_model.specs.Account.{Account}
+use Rattle.adb_model.specs.State.{Stored, State, fresh}
+use Rattle.adb_model.specs.Call as machine
+use Rattle.adb_model.specs.declared.key.Key.{Key}
+use Rattle.adb_model.specs.declared.call.Call.{Call}
+use Rattle.adb_model.specs.declared.call.Call.TheVariants as calls
+use Rattle.adb_model.specs.declared.call.Place.{Place}
+use Rattle.adb_model.specs.declared.call.Place.TheVariants as places
+use Rattle.adb_model.specs.declared.call.Refusal.{Refusal}
+use Rattle.adb_model.specs.declared.call.Refusal.TheVariants as refusals
+use Rattle.adb_model.specs.declared.call.Reply.{Reply}
+use Rattle.adb_model.specs.declared.call.Reply.TheVariants as replies
+use Rattle.adb_model.specs.declared.call.Event.{Event}
+use denote.Ref.{Bor}
+
+-- a store as a slot, a key and an account
+abbrev pub stored_of : ℕ × Key × Arc Account Global → Stored
+stored_of s = record { slot = s.0; key = s.1.0; account = s.2.value }
+
+-- a borrowed store
+abbrev pub row_of : Bor (ℕ × Key × Arc Account Global) → Stored
+row_of r = stored_of r.now
+
+-- the slot and the account of an answer
+abbrev pub found_of : ℕ × Bor (Arc Account Global) → ℕ × Account
+found_of f = (f.0, f.1.now.value)
+
+-- the slot and the account of a store
+abbrev pub place_in : Stored → ℕ × Account
+place_in t = (t.slot, t.account)
+
+-- a state with these stores and roots, and nothing else
+abbrev pub state_with : List (ℕ × Key × Arc Account Global) → List ℕ → State
+state_with stores roots = record (fresh 0 1) { stores = map stored_of stores; roots = roots }
+
+abbrev pub call_of : Call → machine.Call
+call_of (calls.Store slot key account) = machine.Store slot key.0 account.value
+call_of (calls.Root slot) = machine.Root slot
+call_of (calls.Load view key) = machine.Load view key.0
+
+abbrev pub place_of : Place → machine.Place
+place_of places.Cached = machine.Cached
+place_of (places.InStorage id) = machine.InStorage id
+
+abbrev pub refusal_of : Refusal → machine.Refusal
+refusal_of (refusals.SlotRooted slot newest) = machine.SlotRooted slot newest
+refusal_of (refusals.RootOrder slot newest) = machine.RootOrder slot newest
+refusal_of (refusals.ViewTooOld max_root cleaned) = machine.ViewTooOld max_root cleaned
+refusal_of (refusals.TooManyPins most) = machine.TooManyPins most
+
+abbrev pub reply_of : Reply → machine.Reply
+reply_of replies.Done = machine.Done
+reply_of (replies.Refused refusal) = machine.Refused (refusal_of refusal)
+reply_of replies.NotFound = machine.NotFound
+reply_of (replies.Found slot place account) = machine.Found slot (place_of place) account.value
+
+abbrev pub event_of : Event → machine.Event
+event_of e = record { pass = e.pass; call = call_of e.call; reply = reply_of e.reply }

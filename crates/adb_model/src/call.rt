@@ -1,0 +1,98 @@
+ghost use Rattle.std.specs.Prelude.{◌≡◌, IfOk};
+
+use crate::account::Account;
+use crate::key::{Key, Slot};
+use crate::view::View;
+use std::alloc::{AllocError, Global};
+use std::sync::Arc;
+
+/// What a caller asks of the store.
+#[derive(Drop)]
+pub enum Call {
+    /// Store an account under a key in a slot.
+    Store {
+        slot: Slot,
+        key: Key,
+        account: Arc<Account>,
+    },
+    /// Make a slot the newest root.
+    Root {
+        slot: Slot,
+    },
+    /// Load what a view sees of a key.
+    Load {
+        view: View,
+        key: Key,
+    },
+}
+
+/// Where a loaded version stands.
+#[derive(Clone, Copy, Debug, PartialEq, Eq)]
+pub enum Place {
+    /// In the write cache.
+    Cached,
+    /// In the storage with this id.
+    InStorage { id: u64 },
+}
+
+/// Why an event changed nothing.
+#[derive(Clone, Copy, Debug, PartialEq, Eq)]
+pub enum Refusal {
+    /// A store into a slot that isn't above the newest root.
+    SlotRooted { slot: Slot, newest: Slot },
+    /// A root that isn't above the newest root.
+    RootOrder { slot: Slot, newest: Slot },
+    /// A load at a view whose roots end below the slot up to which was cleaned.
+    ViewTooOld { max_root: u64, cleaned: Slot },
+    /// A load by a pass that has as many pins as a pass may have.
+    TooManyPins { most: u64 },
+}
+
+/// What a caller is told.
+#[derive(Drop)]
+pub enum Reply {
+    /// It is done.
+    Done,
+    /// Nothing was changed.
+    Refused {
+        refusal: Refusal,
+    },
+    /// The view sees no account of the key.
+    NotFound,
+    /// The view sees this version.
+    Found {
+        slot: Slot,
+        place: Place,
+        account: Arc<Account>,
+    },
+}
+
+/// A call of a pass, and its reply. A pass is a number from 1 to 65,536 that names one caller.
+#[derive(Drop)]
+pub struct Event {
+    pub pass: u64,
+    pub call: Call,
+    pub reply: Reply,
+}
+
+impl Call {
+    ghost use Rattle.adb_model.specs.Seen.{call_of};
+
+    /// An equal call, which shares the account's memory.
+    pub fn try_copy(&self, alloc: Global) -> Result<Call, AllocError>
+        ensures { IfOk result (λ call. call_of call ≡ call_of self.now) }
+    {
+        match self {
+            Call::Store { slot, key, account } => Ok(Call::Store {
+                slot: *slot,
+                key: *key,
+                account: account.clone()?,
+            }),
+            Call::Root { slot } => Ok(Call::Root { slot: *slot }),
+            Call::Load { view, key } => Ok(Call::Load {
+                view: view.try_copy(alloc)?,
+                key: *key,
+            }),
+        }
+    }
+}
