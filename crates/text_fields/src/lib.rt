@@ -1,0 +1,19 @@
+//! Words that are numbers or keys, and the texts of numbers and of 32-byte values.
+//!
+//! A script's line, a command's words and the names of a snapshot's files all have these two
+//! kinds of words. A number is read with leading zeros and printed without them; a 32-byte value
+//! is read from 2 to 64 hexadecimal digits of either case and printed in lower case, its trailing
+//! zero bytes cut. What is printed is read again as the same value.
+#![tactic(auto)]
+
+mod key;
+mod laws;
+mod number;
+#[cfg(test)]
+mod tests;
+
+pub use key::{key_text, push_key, read_key};
+pub use laws::{
+    key_texts_are_keys, key_words_are_keys, number_texts_are_numbers, number_words_are_numbers,
+};
+pub use number::{number_text, push_number, read_number};
