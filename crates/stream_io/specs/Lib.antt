@@ -1,0 +1,4 @@
+pub mod Adapters
+pub mod Doubles
+pub mod Faults
+pub mod Stream
