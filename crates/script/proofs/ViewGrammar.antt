@@ -1,0 +1,238 @@
+-- The words of views: what is read of them against what they are, both ways.
+use Rattle.std.proofs.Common.{◌≡◌, ℕ, suc, ◌+◌, ◌-◌, ◌^◌, ◌<◌, ◌≤◌, Bool, true, false, cond, eqb, leb, List, [], ◌∷◌, ◌++◌, length, take, drop, get_or, Option, Some, None, refl, sym, ap, ap₂, subst, ◌∙◌, arith, inl, inr}
+use Rattle.std.specs.Prelude.{◌⊎◌, codes, map, not, option_map, option_and_then}
+use Rattle.std.specs.Char.{is_ascii_digit}
+use Rattle.std.specs.List.{AllByRecursion, list_all, slice_split, join_with_byte, position_or_len, before_first, after_first}
+use Rattle.std.specs.Str.{bytes_eq}
+use Rattle.std.specs.Str.Parse.{digits_value}
+use Rattle.std.proofs.lemmas.List.{drop_all}
+use Rattle.std.proofs.lemmas.Bool.{and_parts, cases_Bool, cases_lt, cond-true, cond-false, eqb-true, ne_eqb, leb-true, le-leb}
+use Rattle.std.proofs.lemmas.List.Splits.{slice_split-cons_no, join_with_byte-slice_split, length-slice_split}
+use Rattle.std.proofs.lemmas.List.Sums.{split_at_first, passes_at_first}
+use Rattle.std.proofs.lemmas.Slice.Eq.{bytes_eq-Decides}
+use Rattle.adb_model.specs.View as machine
+use Rattle.adb_model.specs.View.{View}
+use Rattle.text_fields.specs.Numbers.{is_number, number_of}
+use Rattle.script.specs.Arguments.{numbers_of, ancestors_of, max_root_of, view_of}
+use Rattle.script.specs.Views.{AreAncestors, IsMaxRoot, IsView}
+
+-- ---- numbers
+
+-- all of the numbers, or each of them
+numbers_each : (ws : List (List ℕ)) (ns : List ℕ) → numbers_of ws ≡ Some ns → map number_of ws ≡ map Some ns
+numbers_each [] ns e = let none : [] ≡ ns = cc in ap (map Some) none
+numbers_each (w ∷ ws) ns e = by (number_of w) (numbers_of ws) refl e (numbers_each ws) where
+  by : (o : Option ℕ) (os : Option (List ℕ)) → numbers_of ws ≡ os → option_and_then (λ n. option_map (λ ms. n ∷ ms) os) o ≡ Some ns → ((ms : List ℕ) → numbers_of ws ≡ Some ms → map number_of ws ≡ map Some ms)
+      → o ∷ map number_of ws ≡ map Some ns
+  by (Some n) (Some ms) is e more = let whole : n ∷ ms ≡ ns = cc e in ap (λ (r : List (Option ℕ)). Some n ∷ r) (more ms is) ∙ ap (map Some) whole
+  by (Some n) None is e more = absurd (cc e)
+  by None os is e more = absurd (cc e)
+
+each_number : (ws : List (List ℕ)) (ns : List ℕ) → map number_of ws ≡ map Some ns → numbers_of ws ≡ Some ns
+each_number [] [] e = refl
+each_number [] (n ∷ ns) e = absurd cc
+each_number (w ∷ ws) [] e = absurd cc
+each_number (w ∷ ws) (n ∷ ns) e =
+    let first : number_of w ≡ Some n = cc in
+    let rest : map number_of ws ≡ map Some ns = cc in
+    rw (first, each_number ws ns rest) refl
+
+as_many : (ws : List (List ℕ)) (ns : List ℕ) → map number_of ws ≡ map Some ns → length ws ≡ length ns
+as_many [] [] e = refl
+as_many [] (n ∷ ns) e = absurd cc
+as_many (w ∷ ws) [] e = absurd cc
+as_many (w ∷ ws) (n ∷ ns) e = let rest : map number_of ws ≡ map Some ns = cc in omega (arith, as_many ws ns rest)
+
+-- ---- bytes that no number has
+
+-- no byte of the list is this one
+abbrev Lacks : ℕ → List ℕ → Type 0
+Lacks c bs = AllByRecursion (λ b. eqb b c ≡ false) bs
+
+-- this one is no digit
+abbrev IsNoDigit : ℕ → Type 0
+IsNoDigit c = (b : ℕ) → is_ascii_digit b ≡ true → eqb b c ≡ false
+
+digit_range : (b : ℕ) → is_ascii_digit b ≡ true → (48 ≤ b) × (b ≤ 57)
+digit_range b h = let p = and_parts (leb 48 b) (leb b 57) h in (leb-true _ _ p.0, leb-true _ _ p.1)
+
+no_digit : (c : ℕ) → (c < 48) ⊎ (57 < c) → IsNoDigit c
+no_digit c out b h = let r = digit_range b h in ne_eqb b c (λ same. elim out [ inl low ↦ omega arith | inr high ↦ omega arith ])
+
+digits_lack : (c : ℕ) → IsNoDigit c → (w : List ℕ) → list_all (λ b. is_ascii_digit b) w ≡ true → Lacks c w
+digits_lack c out [] h = tt
+digits_lack c out (b ∷ w) h = let p = and_parts (is_ascii_digit b) (list_all (λ x. is_ascii_digit x) w) h in (out b p.0, digits_lack c out w p.1)
+
+number_lacks : (c : ℕ) → IsNoDigit c → (w : List ℕ) (n : ℕ) → number_of w ≡ Some n → Lacks c w
+unfolding number_of
+number_lacks c out w n e = elim (cases_Bool (is_number w)) [
+  | inl good ↦
+      let some = and_parts _ _ good in
+      let most = and_parts _ _ some.1 in
+      digits_lack c out w (and_parts (list_all (λ b. is_ascii_digit b) w) _ most.1).0
+  | inr bad ↦ absurd (cc (cond-false (is_number w) (Some (digits_value 10 w)) None bad))
+]
+
+lacks_more : (c : ℕ) (xs ys : List ℕ) → Lacks c xs → Lacks c ys → Lacks c (xs ++ ys)
+lacks_more c [] ys h k = k
+lacks_more c (x ∷ xs) ys h k = (h.0, lacks_more c xs ys h.1 k)
+
+joined_lacks : (c : ℕ) → IsNoDigit c → eqb 44 c ≡ false → (ws : List (List ℕ)) (ns : List ℕ) → map number_of ws ≡ map Some ns → Lacks c (join_with_byte 44 ws)
+joined_lacks c out comma [] ns e = tt
+joined_lacks c out comma (w ∷ ws) [] e = absurd cc
+joined_lacks c out comma (w ∷ []) (n ∷ ns) e = let first : number_of w ≡ Some n = cc in number_lacks c out w n first
+joined_lacks c out comma (w ∷ v ∷ ws) (n ∷ ns) e =
+    let first : number_of w ≡ Some n = cc in
+    let rest : map number_of (v ∷ ws) ≡ map Some ns = cc in
+    lacks_more c w (44 ∷ join_with_byte 44 (v ∷ ws)) (number_lacks c out w n first) (comma, joined_lacks c out comma (v ∷ ws) ns rest)
+
+-- ---- numbers joined by commas
+
+split_only : (w : List ℕ) → Lacks 44 w → slice_split (λ b. eqb b 44) w ≡ w ∷ []
+split_only [] h = refl
+split_only (b ∷ w) h = slice_split-cons_no (λ x. eqb x 44) b w h.0 ∙ rw (split_only w h.1) refl
+
+split_part : (w rest : List ℕ) → Lacks 44 w → slice_split (λ b. eqb b 44) (w ++ 44 ∷ rest) ≡ w ∷ slice_split (λ b. eqb b 44) rest
+split_part [] rest h = refl
+split_part (b ∷ w) rest h = slice_split-cons_no (λ x. eqb x 44) b (w ++ 44 ∷ rest) h.0 ∙ rw (split_part w rest h.1) refl
+
+split_joined : (ws : List (List ℕ)) (ns : List ℕ) → map number_of ws ≡ map Some ns → 1 ≤ length ns → slice_split (λ b. eqb b 44) (join_with_byte 44 ws) ≡ ws
+split_joined [] [] e some = absurd (omega arith)
+split_joined [] (n ∷ ns) e some = absurd cc
+split_joined (w ∷ ws) [] e some = absurd cc
+split_joined (w ∷ []) (n ∷ ns) e some = let first : number_of w ≡ Some n = cc in split_only w (number_lacks 44 (no_digit 44 (inl (omega arith))) w n first)
+split_joined (w ∷ v ∷ ws) (n ∷ []) e some = absurd cc
+split_joined (w ∷ v ∷ ws) (n ∷ m ∷ ns) e some =
+    let first : number_of w ≡ Some n = cc in
+    let rest : map number_of (v ∷ ws) ≡ map Some (m ∷ ns) = cc in
+    split_part w (join_with_byte 44 (v ∷ ws)) (number_lacks 44 (no_digit 44 (inl (omega arith))) w n first)
+    ∙ ap (λ (ps : List (List ℕ)). w ∷ ps) (split_joined (v ∷ ws) (m ∷ ns) rest (omega arith))
+
+-- which way a test went
+chosen : {A : Type 0} (b : Bool) (x y z : A) → cond b x y ≡ z → ((b ≡ true) × (x ≡ z)) ⊎ ((b ≡ false) × (y ≡ z))
+chosen true x y z e = inl (refl, e)
+chosen false x y z e = inr (refl, e)
+
+ancestors_read : (w : List ℕ) (slots : List ℕ) → ancestors_of w ≡ Some slots → AreAncestors w slots
+unfolding ancestors_of
+ancestors_read w slots e =
+    let parts = slice_split (λ b. eqb b 44) w in
+    elim (chosen (bytes_eq w (codes "-")) (Some []) (cond (leb (length parts) 8192) (numbers_of parts) None) (Some slots) e) [
+      | inl dash ↦ let none : [] ≡ slots = cc dash.1 in inl ((bytes_eq-Decides w (codes "-")).0 dash.0, sym none)
+      | inr other ↦ elim (chosen (leb (length parts) 8192) (numbers_of parts) None (Some slots) other.1) [
+        | inl fit ↦
+            let each = numbers_each parts slots fit.1 in
+            inr (record {
+              words = parts;
+              joined = sym (join_with_byte-slice_split 44 w);
+              numbers = each;
+              some = omega (arith, as_many parts slots each, length-slice_split (λ b. eqb b 44) w);
+              most = omega (arith, as_many parts slots each, leb-true (length parts) 8192 fit.0);
+            })
+        | inr many ↦ absurd (cc many.1)
+      ]
+    ]
+
+ancestors_again : (w : List ℕ) (slots : List ℕ) → AreAncestors w slots → ancestors_of w ≡ Some slots
+unfolding ancestors_of
+ancestors_again w slots (inl dash) = ap ancestors_of dash.0 ∙ ap (λ (l : List ℕ). Some l) (sym dash.1)
+ancestors_again w slots (inr h) =
+    let parts : slice_split (λ b. eqb b 44) w ≡ h.words = ap (slice_split (λ b. eqb b 44)) h.joined ∙ split_joined h.words slots h.numbers h.some in
+    let other : bytes_eq w (codes "-") ≡ false = elim (cases_Bool (bytes_eq w (codes "-"))) [
+      | inl dash ↦ absurd (dashed w ((bytes_eq-Decides w (codes "-")).0 dash) (subst (λ (x : List ℕ). Lacks 45 x) (sym h.joined) (joined_lacks 45 (no_digit 45 (inl (omega arith))) refl h.words slots h.numbers)))
+      | inr not_dash ↦ not_dash
+    ] in
+    let fits : leb (length (slice_split (λ b. eqb b 44) w)) 8192 ≡ true = le-leb _ _ (omega (arith, ap length parts, as_many h.words slots h.numbers, h.most)) in
+    cond-false (bytes_eq w (codes "-")) _ _ other ∙ cond-true (leb (length (slice_split (λ b. eqb b 44) w)) 8192) _ _ fits
+    ∙ ap numbers_of parts ∙ each_number h.words slots h.numbers
+  where
+    dashed : (x : List ℕ) → x ≡ codes "-" → Lacks 45 x → ⊥
+    dashed x e l = let k : Lacks 45 (codes "-") = subst (λ (y : List ℕ). Lacks 45 y) e l in cc k.0
+
+-- ---- the greatest root
+
+max_root_read : (w : List ℕ) (most : ℕ) → max_root_of w ≡ Some most → IsMaxRoot w most
+unfolding max_root_of
+max_root_read w most e = elim (chosen (bytes_eq w (codes "all")) (Some (2 ^ 64 - 1)) (number_of w) (Some most) e) [
+  | inl all ↦ let is : 2 ^ 64 - 1 ≡ most = cc all.1 in inl ((bytes_eq-Decides w (codes "all")).0 all.0, sym is)
+  | inr number ↦ inr number.1
+]
+
+max_root_again : (w : List ℕ) (most : ℕ) → IsMaxRoot w most → max_root_of w ≡ Some most
+unfolding max_root_of
+max_root_again w most (inl all) = ap max_root_of all.0 ∙ ap (λ (n : ℕ). Some n) (sym all.1)
+max_root_again w most (inr number) =
+    let other : bytes_eq w (codes "all") ≡ false = elim (cases_Bool (bytes_eq w (codes "all"))) [
+      | inl all ↦ absurd (worded w ((bytes_eq-Decides w (codes "all")).0 all) (number_lacks 97 (no_digit 97 (inr (omega arith))) w most number))
+      | inr not_all ↦ not_all
+    ] in
+    cond-false (bytes_eq w (codes "all")) _ _ other ∙ number
+  where
+    worded : (x : List ℕ) → x ≡ codes "all" → Lacks 97 x → ⊥
+    worded x e l = let k : Lacks 97 (codes "all") = subst (λ (y : List ℕ). Lacks 97 y) e l in cc k.0
+
+-- ---- views
+
+abbrev at_sign : ℕ → Bool
+at_sign b = eqb b 64
+
+-- where the `@` is
+at_front : (front back : List ℕ) → Lacks 64 front → position_or_len at_sign (front ++ 64 ∷ back) ≡ length front
+at_front [] back h = refl
+at_front (b ∷ front) back h = cond-true (not (eqb b 64)) (1 + position_or_len at_sign (front ++ 64 ∷ back)) 0 (ap not h.0) ∙ omega (arith, at_front front back h.1)
+
+front_again : (front rest : List ℕ) → take (length front) (front ++ rest) ≡ front
+front_again [] rest = refl
+front_again (b ∷ front) rest = ap (λ (l : List ℕ). b ∷ l) (front_again front rest)
+
+back_again : (front : List ℕ) (b : ℕ) (back : List ℕ) → drop (suc (length front)) (front ++ b ∷ back) ≡ back
+back_again [] b back = refl
+back_again (x ∷ front) b back = back_again front b back
+
+ancestors_lack : (front slots : List ℕ) → AreAncestors front slots → Lacks 64 front
+ancestors_lack front slots (inl dash) = subst (λ (x : List ℕ). Lacks 64 x) (sym dash.0) (refl, tt)
+ancestors_lack front slots (inr h) = subst (λ (x : List ℕ). Lacks 64 x) (sym h.joined) (joined_lacks 64 (no_digit 64 (inr (omega arith))) refl h.words slots h.numbers)
+
+pub view_again : (w : List ℕ) (view : View) → IsView w view → view_of w ≡ Some view
+unfolding view_of
+view_again w view h =
+    let at : position_or_len at_sign w ≡ length h.front = ap (position_or_len at_sign) h.joined ∙ at_front h.front h.back (ancestors_lack h.front h.slots h.ancestors) in
+    let front : before_first at_sign w ≡ h.front = ap₂ (λ (n : ℕ) (x : List ℕ). take n x) at h.joined ∙ front_again h.front (64 ∷ h.back) in
+    let past : position_or_len at_sign w + 1 ≡ suc (length h.front) = omega arith in
+    let back : after_first at_sign w ≡ h.back = ap₂ (λ (n : ℕ) (x : List ℕ). drop n x) past h.joined ∙ back_again h.front 64 h.back in
+    let slots : ancestors_of (before_first at_sign w) ≡ Some h.slots = ap ancestors_of front ∙ ancestors_again h.front h.slots h.ancestors in
+    let most : max_root_of (after_first at_sign w) ≡ Some h.max_root = ap max_root_of back ∙ max_root_again h.back h.max_root h.root in
+    rw (slots, most) (ap (λ (v : View). Some v) h.view_is)
+
+-- what both parts were read as
+parts_read : (o : Option (List ℕ)) (m : Option ℕ) (view : View) → option_and_then (λ slots. option_map (λ most. machine.view_of slots most) m) o ≡ Some view
+    → (slots : List ℕ) × (most : ℕ) × (o ≡ Some slots) × (m ≡ Some most) × (machine.view_of slots most ≡ view)
+parts_read None m view e = absurd cc
+parts_read (Some slots) None view e = absurd cc
+parts_read (Some slots) (Some most) view e = (slots, most, refl, refl, cc)
+
+no_max_root : (most : ℕ) → max_root_of [] ≡ Some most → ⊥
+unfolding max_root_of number_of
+no_max_root most e = cc e
+
+pub view_read : (w : List ℕ) (view : View) → view_of w ≡ Some view → IsView w view
+unfolding view_of
+view_read w view e =
+    let p = parts_read (ancestors_of (before_first at_sign w)) (max_root_of (after_first at_sign w)) view e in
+    elim (cases_lt (position_or_len at_sign w) (length w)) [
+      | inl lt ↦
+          let sign : get_or w (position_or_len at_sign w) 0 ≡ 64 = eqb-true _ _ (passes_at_first at_sign w 0 lt) in
+          record {
+            front = before_first at_sign w;
+            back = after_first at_sign w;
+            slots = p.0;
+            max_root = p.1;
+            joined = split_at_first at_sign w 0 lt ∙ ap (λ (b : ℕ). before_first at_sign w ++ b ∷ after_first at_sign w) sign;
+            ancestors = ancestors_read (before_first at_sign w) p.0 p.2;
+            root = max_root_read (after_first at_sign w) p.1 p.3;
+            view_is = p.4;
+          }
+      | inr ge ↦
+          let none : after_first at_sign w ≡ [] = drop_all (position_or_len at_sign w + 1) w (omega arith) in
+          absurd (no_max_root p.1 (ap max_root_of (sym none) ∙ p.3))
+    ]

@@ -1,0 +1,5 @@
+use Rattle.script.proofs.GrammarLemmas.{reads}
+use Rattle.script.proofs.laws.reads_the_grammar.Goals as goal
+
+pub returns : goal.returns
+returns c = reads

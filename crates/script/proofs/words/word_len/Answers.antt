@@ -1,0 +1,15 @@
+use Rattle.std.proofs.Common.{◌∙◌, rules}
+use Rattle.std.specs.Prelude.{not}
+use Rattle.std.proofs.lemmas.Iterator.{YieldsList-from_slice}
+use Rattle.std.proofs.lemmas.Iterator.Search.{YieldsList-from_take_while}
+use Rattle.std.proofs.lemmas.Iterator.Consumers.{count_from_yields_List}
+use Rattle.std.proofs.lemmas.List.Folds.{length-prefix_len}
+use borrow.Author.Tests.{tests}
+use Rattle.script.specs.Words.{is_blank}
+use Rattle.script.proofs.words.word_len.Goals as goal
+
+pub returns : goal.returns
+returns c =
+    count_from_yields_List c.take_while.result _ c.count.ensures.ran
+    (YieldsList-from_take_while _ (λ b. not (is_blank b)) (YieldsList-from_slice c.args.line.now (cc)) c.take_while.ensures.closure c.take_while.ensures.done (λ x b q k. search (rules, tests)))
+    ∙ length-prefix_len (λ b. not (is_blank b)) c.args.line.now

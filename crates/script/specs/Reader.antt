@@ -1,0 +1,99 @@
+-- A script as it is read, from left to right: its lines, or the first bad word.
+use Rattle.std.specs.Prelude.{ℕ, ◌+◌, ◌==◌, false, if◌then◌else◌, List, [], ◌∷◌, codes, replicate, Option, Some, None, Result, Ok, Err}
+use Rattle.std.specs.Str.{bytes_eq}
+use Rattle.std.specs.Str.Lines.{lines}
+use Rattle.adb_model.specs.Account.{account_of}
+use Rattle.adb_model.specs.Call.{Store, Root}
+use Rattle.adb_model.specs.Plays.{Order, Plain, Get, Line}
+use Rattle.text_fields.specs.Keys.{key_of}
+use Rattle.text_fields.specs.Numbers.{number_of}
+use Rattle.script.specs.declared.fault.Kind.{Kind}
+use Rattle.script.specs.declared.fault.Kind.TheVariants as kinds
+use Rattle.script.specs.declared.fault.WordFault.{WordFault}
+use Rattle.script.specs.declared.fault.LineFault.{LineFault}
+use Rattle.script.specs.Arguments.{view_of}
+use Rattle.script.specs.Words.{words, is_skipped}
+
+-- the second step, where the first gave a value
+infixl 10 ◌>>=◌
+abbrev pub ◌>>=◌ : {A B : Type 0} → Result A WordFault → (A → Result B WordFault) → Result B WordFault
+(Ok x) >>= f = f x
+(Err e) >>= f = Err e
+
+abbrev pub fault : {A : Type 0} → ℕ → Kind → Result A WordFault
+fault word kind = Err (record { word = word; kind = kind })
+
+-- a value that a word is, or a fault of that word
+abbrev pub good : {A : Type 0} → ℕ → Kind → List (List ℕ) → Option A → Result (A × List (List ℕ)) WordFault
+good word kind rest None = fault word kind
+good word kind rest (Some x) = Ok (x, rest)
+
+-- the word at this place of the line, read so, and the words after it
+unfoldable pub argument : {A : Type 0} → (List ℕ → Option A) → Kind → ℕ → List (List ℕ) → Result (A × List (List ℕ)) WordFault
+argument read kind word [] = fault word kinds.Missing
+argument read kind word (w ∷ ws) = good word kind ws (read w)
+
+-- no word is too many
+abbrev pub ended : {A : Type 0} → ℕ → List (List ℕ) → A → Result A WordFault
+ended word [] x = Ok x
+ended word (w ∷ ws) x = fault word kinds.Surplus
+
+-- lane 1 alone
+abbrev pub only_one : Option ℕ → Option ℕ
+only_one None = None
+only_one (Some n) = if n == 1 then Some n else None
+
+abbrev pub lane_of : List ℕ → Option ℕ
+lane_of w = only_one (number_of w)
+
+unfoldable pub store_of : List (List ℕ) → Result Order WordFault
+store_of ws = do
+  slot ← argument number_of kinds.Number 3 ws
+  key ← argument key_of kinds.Key 4 slot.1
+  lamports ← argument number_of kinds.Number 5 key.1
+  ended 6 lamports.1 (Plain (Store slot.0 key.0 (account_of lamports.0 (replicate 32 0) false 0 [])))
+
+unfoldable pub root_of : List (List ℕ) → Result Order WordFault
+root_of ws = do
+  slot ← argument number_of kinds.Number 3 ws
+  ended 4 slot.1 (Plain (Root slot.0))
+
+unfoldable pub get_of : List (List ℕ) → Result Order WordFault
+get_of ws = do
+  view ← argument view_of kinds.View 3 ws
+  key ← argument key_of kinds.Key 4 view.1
+  ended 5 key.1 (Get view.0 key.0)
+
+unfoldable pub order_of : List (List ℕ) → Result Order WordFault
+order_of [] = fault 2 kinds.Missing
+order_of (w ∷ ws) =
+    if bytes_eq w (codes "store") then store_of ws
+    else if bytes_eq w (codes "root") then root_of ws
+    else if bytes_eq w (codes "get") then get_of ws
+    else fault 2 kinds.Unknown
+
+unfoldable pub line_of : List (List ℕ) → Result Line WordFault
+line_of ws = do
+  lane ← argument lane_of kinds.Lane 1 ws
+  order ← order_of lane.1
+  Ok (record { lane = lane.0; order = order })
+
+-- what a line says, if anything
+abbrev pub said_by : List (List ℕ) → Result (Option Line) WordFault
+said_by ws = if is_skipped ws then Ok None else (line_of ws >>= λ line. Ok (Some line))
+
+-- a line, and the lines after it
+abbrev pub and_then : ℕ → Result (Option Line) WordFault → Result (List Line) LineFault → Result (List Line) LineFault
+and_then number (Err f) rest = Err (record { line = number; word = f.word; kind = f.kind })
+and_then number (Ok None) rest = rest
+and_then number (Ok (Some line)) (Err f) = Err f
+and_then number (Ok (Some line)) (Ok lines) = Ok (line ∷ lines)
+
+-- what some lines say, the first of them with this number
+abbrev pub lines_from : ℕ → List (List ℕ) → Result (List Line) LineFault
+lines_from number [] = Ok []
+lines_from number (l ∷ ls) = and_then number (said_by (words l)) (lines_from (number + 1) ls)
+
+-- what the bytes of a script say, or their first bad word
+unfoldable pub script_of : List ℕ → Result (List Line) LineFault
+script_of bytes = lines_from 1 (lines bytes)

@@ -1,0 +1,48 @@
+-- What the program's values stand for.
+use Rattle.std.specs.Prelude.{◌≡◌, ℕ, List, map, Result, Ok, Err}
+use Rattle.adb_model.specs.Plays as machine
+use Rattle.adb_model.specs.Seen.{call_of}
+use Rattle.script.specs.declared.fault.WordFault.{WordFault}
+use Rattle.script.specs.declared.fault.LineFault.{LineFault}
+use Rattle.script.specs.declared.fault.ReadError.{ReadError}
+use Rattle.script.specs.declared.fault.ReadError.TheVariants as read_errors
+use Rattle.script.specs.declared.fault.LineError.{LineError}
+use Rattle.script.specs.declared.fault.LineError.TheVariants as line_errors
+use Rattle.script.specs.declared.line.Order.{Order}
+use Rattle.script.specs.declared.line.Order.TheVariants as orders
+use Rattle.script.specs.declared.line.Line.{Line}
+use Rattle.script.specs.declared.line.Script.{Script}
+
+abbrev pub order_seen : Order → machine.Order
+order_seen (orders.Event call) = machine.Plain (call_of call)
+order_seen (orders.Get view key) = machine.Get view key.0
+
+abbrev pub line_seen : Line → machine.Line
+line_seen l = record { lane = l.lane; order = order_seen l.order }
+
+-- the lines of a script
+abbrev pub lines_seen : Script → List machine.Line
+lines_seen s = map line_seen s.lines.items
+
+-- what a function answered, seen so, is what the reader gives, unless memory ran out
+abbrev pub Fails : {Y : Type 0} → ReadError → Result Y WordFault → Type 0
+Fails read_errors.Memory read = Unit {0}
+Fails (read_errors.Fault f) read = read ≡ Err f
+
+abbrev pub Gives : {X Y : Type 0} → (X → Y) → Result X ReadError → Result Y WordFault → Type 0
+Gives view (Ok x) read = read ≡ Ok (view x)
+Gives view (Err e) read = Fails e read
+
+-- the same of a whole script
+abbrev pub FailsScript : LineError → Result (List machine.Line) LineFault → Type 0
+FailsScript line_errors.Memory read = Unit {0}
+FailsScript (line_errors.Fault f) read = read ≡ Err f
+
+abbrev pub GivesScript : Result Script LineError → Result (List machine.Line) LineFault → Type 0
+GivesScript (Ok s) read = read ≡ Ok (lines_seen s)
+GivesScript (Err e) read = FailsScript e read
+
+-- the error of a line's word, by the line's number
+abbrev pub error_at : ℕ → ReadError → LineError
+error_at line read_errors.Memory = line_errors.Memory
+error_at line (read_errors.Fault f) = line_errors.Fault (record { line = line; word = f.word; kind = f.kind })

@@ -1,0 +1,107 @@
+ghost use Rattle.std.specs.Prelude.{◌≡◌, ◌==◌, ◌<◌, ◌∷◌, length, IfOk};
+ghost use Rattle.std.specs.List.{position_or_len};
+ghost use Rattle.std.specs.Option.{option_map};
+ghost use Rattle.std.specs.Str.Lines.{lines as lines_of, strip_carriage_return};
+ghost use Rattle.script.specs.Grammar.{IsScript, IsNoScript};
+ghost use Rattle.script.specs.Reader.{said_by, script_of};
+ghost use Rattle.script.specs.Seen.{Gives, GivesScript, line_seen, lines_seen, error_at};
+ghost use Rattle.script.specs.Words.{words};
+
+use crate::fault::{LineError, LineFault, ReadError, ScriptFault};
+use crate::line::{Line, Script};
+use crate::reading::read_line;
+use crate::words::{begins_comment, split_word};
+use std::alloc::Global;
+
+// The index of the first newline, or the length.
+fn newline(bytes: &[u8]) -> usize
+    ensures { result ≡ position_or_len (λ b. b == 10) bytes.now }
+{
+    bytes.iter().take_while(|byte| **byte != b'\n').count()
+}
+
+fn without_return(line: &[u8]) -> &[u8]
+    ensures { result.now ≡ strip_carriage_return line.now }
+{
+    match line {
+        [front @ .., b'\r'] => front,
+        _ => line,
+    }
+}
+
+// The first line, and the bytes after its end.
+fn next_line(bytes: &[u8]) -> (&[u8], &[u8])
+    requires { 0 < length bytes.now }
+    ensures line { lines_of bytes.now ≡ result.0.now ∷ lines_of result.1.now }
+    ensures rest { length result.1.now < length bytes.now }
+{
+    let at = newline(bytes);
+    if at >= bytes.len() {
+        return (bytes, &[]);
+    }
+    let (line, _) = bytes.split_at(at);
+    let (_, rest) = bytes.split_at(at + 1);
+    (without_return(line), rest)
+}
+
+// What a line says, if anything.
+fn said(alloc: Global, line: &[u8]) -> Result<Option<Line>, ReadError>
+    ensures { Gives (λ o. option_map line_seen o) result (said_by (words line.now)) }
+{
+    let Some((first, rest)) = split_word(line) else {
+        return Ok(None);
+    };
+    if begins_comment(first) {
+        return Ok(None);
+    }
+    Ok(Some(read_line(alloc, first, rest)?))
+}
+
+fn at_line(line: u64, error: ReadError) -> LineError
+    ensures { result ≡ error_at line error }
+{
+    match error {
+        ReadError::Memory => LineError::Memory,
+        ReadError::Fault(fault) => LineError::Fault(LineFault {
+            line,
+            word: fault.word,
+            kind: fault.kind,
+        }),
+    }
+}
+
+// What the bytes of a script say, or their first bad word.
+#[tactic(auto, unfolding(crate::specs::Reader::script_of))]
+fn read_script(alloc: Global, bytes: &[u8]) -> Result<Script, LineError>
+    ensures { GivesScript result (script_of bytes.now) }
+{
+    let mut lines = Vec::new(alloc);
+    let mut rest = bytes;
+    let mut number = 1;
+    while !rest.is_empty() {
+        let (line, after) = next_line(rest);
+        match said(alloc, line) {
+            Ok(Some(line)) => lines.push(line)?,
+            Ok(None) => {}
+            Err(error) => return Err(at_line(number, error)),
+        }
+        number += 1;
+        rest = after;
+    }
+    Ok(Script { lines })
+}
+
+/// What the bytes of a script say.
+///
+/// # Errors
+/// `Form` exactly where the bytes are no script, unless memory runs out, which is `NoMemory`.
+pub fn parse(alloc: Global, bytes: &[u8]) -> Result<Script, ScriptFault>
+    ensures script { IfOk result (λ script. IsScript bytes.now (lines_seen script)) }
+    ensures form { result ≡ Err ScriptFault.Form → IsNoScript bytes.now }
+{
+    match read_script(alloc, bytes) {
+        Ok(script) => Ok(script),
+        Err(LineError::Memory) => Err(ScriptFault::NoMemory),
+        Err(LineError::Fault(_)) => Err(ScriptFault::Form),
+    }
+}

@@ -1,0 +1,49 @@
+ghost use Rattle.std.specs.Prelude.{◌≡◌, ◌==◌, ◌∷◌, not, length, slice_index, MatchOption, []};
+ghost use Rattle.std.specs.List.{position_or_len, prefix_len};
+ghost use Rattle.script.specs.Words as texts;
+
+fn is_blank(byte: u8) -> bool
+    ensures { result ≡ texts.is_blank byte }
+{
+    byte == b' ' || byte == b'\t'
+}
+
+// How many blanks stand at the front.
+fn blanks(line: &[u8]) -> usize
+    ensures { result ≡ prefix_len (λ b. texts.is_blank b) line.now }
+{
+    line.iter().take_while(|byte| is_blank(**byte)).count()
+}
+
+// How many bytes stand before the first blank.
+fn word_len(line: &[u8]) -> usize
+    ensures { result ≡ position_or_len (λ b. texts.is_blank b) line.now }
+{
+    line.iter().take_while(|byte| !is_blank(**byte)).count()
+}
+
+/// The first word of a line and what follows it, where the line has a word.
+pub fn split_word(line: &[u8]) -> Option<(&[u8], &[u8])>
+    ensures { MatchOption result (texts.words line.now ≡ []) (λ split.
+        texts.words line.now ≡ split.0.now ∷ texts.words split.1.now) }
+{
+    let (_, line) = line.split_at(blanks(line));
+    if line.is_empty() {
+        return None;
+    }
+    let (word, rest) = line.split_at(word_len(line));
+    if word == b"=".as_slice() {
+        return None;
+    }
+    Some((word, rest))
+}
+
+/// Whether a line whose first word this is counts as a comment.
+pub fn begins_comment(word: &[u8]) -> bool
+    ensures { result ≡ (slice_index word.now 0 == 35) }
+{
+    match word {
+        [] => false,
+        [first, ..] => *first == b'#',
+    }
+}
