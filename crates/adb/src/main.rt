@@ -1,0 +1,40 @@
+//! The program `adb`.
+#![tactic(auto)]
+
+mod running;
+
+use std::env;
+use std::io::{self, BufReader, BufWriter, ErrorKind};
+use std::process::ExitCode;
+use stream_io::{StdSink, StdSource};
+
+/// The status of want of memory.
+const NO_MEMORY: u8 = 6;
+
+// The words of the command line, without the program's name. Words that aren't UTF-8 are none.
+fn words(rt: &HostRuntime) -> io::Result<Vec<String>> {
+    let mut words = Vec::new(rt.alloc());
+    let given = match env::args(rt) {
+        Err(error) if error.kind() == ErrorKind::InvalidData => return Ok(words),
+        given => given?,
+    };
+    for word in given.skip(1) {
+        words.push(word)?;
+    }
+    Ok(words)
+}
+
+// Runs the program over the standard streams, buffered both ways.
+fn run(rt: &HostRuntime) -> io::Result<u8> {
+    let words = words(rt)?;
+    let mut source = StdSource::new(BufReader::new(rt.alloc(), rt.reader())?);
+    let mut sink = StdSink::new(BufWriter::new(rt.alloc(), io::writer(rt))?);
+    Ok(running::run(rt, &words, &mut source, &mut sink))
+}
+
+fn main(rt: HostRuntime) -> ExitCode {
+    ExitCode::from(run(&rt).unwrap_or(NO_MEMORY))
+}
+
+#[cfg(test)]
+mod tests;

@@ -1,0 +1,214 @@
+ghost use Rattle.std.specs.Prelude.{None};
+
+use crate::running::run;
+use std::test::Fail;
+use stream_io::{Failed, MemSink, MemSource, Sink, Source};
+
+/// A source of so many `#`, which all together are one comment.
+#[derive(Drop)]
+struct Comment {
+    left: usize,
+}
+
+impl Source for Comment {
+    ghost left = { λ _. None };
+
+    ghost faults = { λ _. 0 };
+
+    fn read(&mut self, into: &mut [u8]) -> Result<usize, Failed> {
+        let count = into.len().min(self.left);
+        into.fill(b'#');
+        self.left -= count;
+        Ok(count)
+    }
+}
+
+// What a run of the words wrote, and its status.
+fn ran<S: Source>(
+    rt: &HostRuntime,
+    words: &[&str],
+    source: &mut S,
+    sink_fails: &[u64],
+) -> Result<(u8, Vec<u8>), Fail> {
+    let alloc = rt.alloc();
+    let mut texts = Vec::new(alloc);
+    for word in words {
+        texts.push(String::from_str(alloc, word)?)?;
+    }
+    let mut sink = MemSink::new(alloc, 10_000, sink_fails.to_vec(alloc)?)?;
+    let status = run(rt, &texts, source, &mut sink);
+    Ok((status, sink.bytes().to_vec(alloc)?))
+}
+
+// The same of `replay` over a script, with calls of the source and the sink that fail.
+fn replayed(
+    rt: &HostRuntime,
+    script: &str,
+    source_fails: &[u64],
+    sink_fails: &[u64],
+) -> Result<(u8, Vec<u8>), Fail> {
+    let alloc = rt.alloc();
+    let bytes = script.as_bytes().to_vec(alloc)?;
+    let mut source = MemSource::new(bytes, source_fails.to_vec(alloc)?);
+    ran(rt, &["replay"], &mut source, sink_fails)
+}
+
+#[test]
+fn scripts_have_these_journals(rt: HostRuntime) -> Result<(), Fail> {
+    let table = [
+        ("nothing", "", ""),
+        (
+            "a load before and after its root",
+            "1 store 5 01 100\n1 get -@all 01\n1 root 5\n1 get -@all 01\n",
+            "1 store 5 01 100 00 0 0 - = ok\n1 load -@all 01 = none\n1 root 5 = ok\n1 load -@all 01 = some 5 cached 100 00 0 0 -\n",
+        ),
+        (
+            "a root above an ancestor, and one that isn't seen",
+            "1 store 4 01 40\n1 store 7 01 70\n1 root 7\n1 get 4@all 01\n1 get 4@6 01\n",
+            "1 store 4 01 40 00 0 0 - = ok\n1 store 7 01 70 00 0 0 - = ok\n1 root 7 = ok\n1 load 4@all 01 = some 7 cached 70 00 0 0 -\n1 load 4@6 01 = some 4 cached 40 00 0 0 -\n",
+        ),
+        (
+            "the last store of a slot",
+            "1 store 5 02 1\n1 store 5 02 2\n1 get 5@all 02\n",
+            "1 store 5 02 1 00 0 0 - = ok\n1 store 5 02 2 00 0 0 - = ok\n1 load 5@all 02 = some 5 cached 2 00 0 0 -\n",
+        ),
+        (
+            "a deleted key",
+            "1 store 5 02 1\n1 store 5 02 0\n1 get 5@all 02\n",
+            "1 store 5 02 1 00 0 0 - = ok\n1 store 5 02 0 00 0 0 - = ok\n1 load 5@all 02 = none\n",
+        ),
+        (
+            "roots out of order, and stores at and below the newest root",
+            "1 root 7\n1 root 7\n1 store 7 01 1\n1 store 6 01 1\n1 store 8 01 1\n",
+            "1 root 7 = ok\n1 root 7 = root-order 7 7\n1 store 7 01 1 00 0 0 - = slot-rooted 7 7\n1 store 6 01 1 00 0 0 - = slot-rooted 6 7\n1 store 8 01 1 00 0 0 - = ok\n",
+        ),
+        (
+            "blanks, line ends, comments, what stands behind =",
+            "1 store 5 02 1\r\n\t1  store\t5 03 4 = x y z\n\n# no\n=\n \t \n#1 root 9\n1 get 5@all 03",
+            "1 store 5 02 1 00 0 0 - = ok\n1 store 5 03 4 00 0 0 - = ok\n1 load 5@all 03 = some 5 cached 4 00 0 0 -\n",
+        ),
+        (
+            "leading zeros, digits of either case, ancestors in any order, the greatest numbers",
+            "01 store 00000000000000000005 0A 18446744073709551615\n1 get 9,005,5@18446744073709551615 0a00\n1 get -@18446744073709551614 aBcD\n",
+            "1 store 5 0a 18446744073709551615 00 0 0 - = ok\n1 load 5,9@all 0a = some 5 cached 18446744073709551615 00 0 0 -\n1 load -@18446744073709551614 abcd = none\n",
+        ),
+        (
+            "a journal is a script",
+            "1 store 5 01 100 = ok\n1 get 5@all 01 = some 5 cached 100 00 0 0 -\n",
+            "1 store 5 01 100 00 0 0 - = ok\n1 load 5@all 01 = some 5 cached 100 00 0 0 -\n",
+        ),
+    ];
+    for (name, script, journal) in table {
+        let (status, wrote) = replayed(&rt, script, &[], &[])?;
+        assert_eq!(rt; status, 0, "{name}");
+        assert_eq!(rt; wrote.as_slice(), journal.as_bytes(), "{name}");
+    }
+    Ok(())
+}
+
+#[test]
+fn what_is_no_script_is_refused_whole(rt: HostRuntime) -> Result<(), Fail> {
+    let table = [
+        "1 purge 5",
+        "2 root 5",
+        "1 root",
+        "1 root 5 6",
+        "1 root 18446744073709551616",
+        "1 store 5 0 1",
+        "1 get 5@All 01",
+        "1 get 5@5 é1",
+    ];
+    for bad in table {
+        let alloc = rt.alloc();
+        let script = format!(in alloc; "1 store 5 01 1\n{bad}\n1 root 9\n")?;
+        let (status, wrote) = replayed(&rt, &script, &[], &[])?;
+        assert_eq!(rt; status, 2, "{bad}");
+        assert_eq!(rt; wrote.as_slice(), "script: refused\n".as_bytes(), "{bad}");
+    }
+    Ok(())
+}
+
+#[test]
+fn other_words_are_told_the_usage(rt: HostRuntime) -> Result<(), Fail> {
+    let table: [&[&str]; 6] = [
+        &[],
+        &["replay", "x"],
+        &["make", "101"],
+        &["Replay"],
+        &[""],
+        &["replay "],
+    ];
+    for words in table {
+        let mut source = Comment { left: 1 };
+        let (status, wrote) = ran(&rt, words, &mut source, &[])?;
+        assert_eq!(rt; status, 1);
+        assert_eq!(rt; wrote.as_slice(), "adb: usage: adb replay\n".as_bytes());
+        assert_eq!(rt; source.left, 1, "nothing is read");
+    }
+    Ok(())
+}
+
+const TWO_LINES: &str = "1 store 5 01 100\n1 get 5@all 01\n";
+
+const TWO_EVENTS: [&str; 2] = [
+    "1 store 5 01 100 00 0 0 - = ok\n",
+    "1 load 5@all 01 = some 5 cached 100 00 0 0 -\n",
+];
+
+#[test]
+fn a_stream_that_fails_gives_its_status(rt: HostRuntime) -> Result<(), Fail> {
+    let alloc = rt.alloc();
+    // The source fails at its first call, and at the one that would find its end.
+    for call in [0, 1] {
+        let (status, wrote) = replayed(&rt, TWO_LINES, &[call], &[])?;
+        assert_eq!(rt; status, 3);
+        assert_eq!(rt; wrote.as_slice(), "adb: read fault\n".as_bytes());
+    }
+    // The sink fails at each of its writes, and at the flush after them.
+    let mut due = Vec::new(alloc);
+    for (call, event) in [(0, TWO_EVENTS[0]), (1, TWO_EVENTS[1]), (2, "")] {
+        let (status, wrote) = replayed(&rt, TWO_LINES, &[], &[call])?;
+        assert_eq!(rt; status, 4, "call {call}");
+        assert_eq!(rt; wrote.as_slice(), due.as_slice(), "call {call}");
+        due.extend_from_slice(event.as_bytes())?;
+    }
+    // A sink that fails at a last line, or at the flush after it, changes no status.
+    for call in [0, 1] {
+        assert_eq!(rt; replayed(&rt, "1 stop\n", &[], &[call])?.0, 2);
+        assert_eq!(rt; replayed(&rt, TWO_LINES, &[0], &[call])?.0, 3);
+        assert_eq!(rt; ran(&rt, &[], &mut Comment { left: 0 }, &[call])?.0, 1);
+    }
+    Ok(())
+}
+
+#[test]
+fn scripts_have_so_many_bytes(rt: HostRuntime) -> Result<(), Fail> {
+    let table = [
+        (268_435_456, 0, ""),
+        (268_435_457, 2, "script: longer than 268435456 bytes\n"),
+        (
+            1_000_000_000_000,
+            2,
+            "script: longer than 268435456 bytes\n",
+        ),
+    ];
+    for (left, status, text) in table {
+        let (answered, wrote) = ran(&rt, &["replay"], &mut Comment { left }, &[])?;
+        assert_eq!(rt; answered, status, "{left} bytes");
+        assert_eq!(rt; wrote.as_slice(), text.as_bytes(), "{left} bytes");
+    }
+    Ok(())
+}
+
+#[test]
+fn one_bad_word_at_the_end_refuses_all(rt: HostRuntime) -> Result<(), Fail> {
+    let alloc = rt.alloc();
+    let mut bytes = vec![in alloc; b'\n'; 100_000_000]?;
+    bytes[0] = b'#';
+    bytes.extend_from_slice("1 root 5\n1 root x".as_bytes())?;
+    let mut source = MemSource::new(bytes, Vec::new(alloc));
+    let (status, wrote) = ran(&rt, &["replay"], &mut source, &[])?;
+    assert_eq!(rt; status, 2);
+    assert_eq!(rt; wrote.as_slice(), "script: refused\n".as_bytes());
+    Ok(())
+}
