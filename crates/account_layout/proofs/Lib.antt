@@ -1,0 +1,5 @@
+pub mod Found
+pub mod Known
+pub mod Parts
+pub mod Readings
+pub mod Writing
