@@ -1,0 +1,10 @@
+pub mod Sums
+pub mod Lists
+pub mod Taking
+pub mod Passing
+pub mod Splitting
+pub mod Ranges
+pub mod Views
+pub mod Ends
+pub mod Calls
+pub mod Logged

@@ -1,0 +1,4 @@
+use Rattle.turn_lock.proofs.turn.Turn.try_enter.Given as goal
+
+abbrev pub ghosts-take : goal.ghosts-take
+ghosts-take g a = record { reads = g.V.Standing.stands a.words.now.key.value }
