@@ -1,0 +1,91 @@
+ghost use Rattle.std.specs.Prelude.{◌≡◌, ◌+◌, ◌<◌, ◌≤◌, false, OnOk, OnErr, IsOk, IsSome, is_some, vec_len};
+ghost use Rattle.std.specs.Vec.{vec_capacity};
+ghost use Rattle.std.specs.List.Sorted.{IsStrictlyIncreasing};
+ghost use Rattle.view_sets.specs.Slots.{among};
+ghost use Rattle.slot_list.specs.Versions.{at, put, without, rehomed, with_slot, without_slot, VersionsRise};
+
+use crate::search::{place_of, place_of_slot};
+use crate::{Place, Version};
+use std::alloc::AllocError;
+
+/// Puts a version at its place, in place of one of its slot.
+pub fn put_version(versions: &mut Vec<Version>, version: Version) -> Result<(), AllocError>
+    requires { VersionsRise versions.old.items }
+    ensures rise { VersionsRise versions.new.items }
+    ensures ok { OnOk result (versions.new.items ≡ put version versions.old.items) }
+    ensures err { OnErr result (versions.new.items ≡ versions.old.items) }
+    ensures there { IsSome (at version.slot versions.old.items) → IsOk result }
+{
+    match place_of(versions, version.slot) {
+        Ok(place) => {
+            versions[place] = version;
+            Ok(())
+        }
+        Err(place) => Ok(versions.insert(place, version)?),
+    }
+}
+
+/// Takes the version of a slot out, and says whether there was one.
+pub fn take_version(versions: &mut Vec<Version>, slot: u64) -> bool
+    requires { VersionsRise versions.old.items }
+    ensures rise { VersionsRise versions.new.items }
+    ensures there { result ≡ is_some (at slot versions.old.items) }
+    ensures items { versions.new.items ≡ without slot versions.old.items }
+{
+    match place_of(versions, slot) {
+        Ok(place) => {
+            let _ = versions.remove(place);
+            true
+        }
+        Err(_) => false,
+    }
+}
+
+/// Gives the version of a slot another place.
+pub fn rehome_version(versions: &mut Vec<Version>, slot: u64, place: Place)
+    requires rise { VersionsRise versions.old.items }
+    requires there { IsSome (at slot versions.old.items) }
+    ensures rise { VersionsRise versions.new.items }
+    ensures items { versions.new.items ≡ rehomed slot place versions.old.items }
+{
+    match place_of(versions, slot) {
+        Ok(found) => versions[found].place = place,
+        Err(_) => unreachable!(),
+    }
+}
+
+/// Puts a slot at its place, for which there is room.
+pub fn put_slot(slots: &mut Vec<u64>, slot: u64)
+    requires room { vec_len slots.old < vec_capacity slots.old }
+    requires rise { IsStrictlyIncreasing slots.old.items }
+    requires absent { among slot slots.old.items ≡ false }
+    ensures rise { IsStrictlyIncreasing slots.new.items }
+    ensures items { slots.new.items ≡ with_slot slot slots.old.items }
+    ensures len { vec_len slots.new ≡ vec_len slots.old + 1 }
+    ensures capacity { vec_capacity slots.new ≡ vec_capacity slots.old }
+{
+    match place_of_slot(slots, slot) {
+        Ok(_) => unreachable!(),
+        Err(place) => {
+            let _ = slots.insert(place, slot);
+        }
+    }
+}
+
+/// Takes a slot out, and says whether it was there.
+pub fn take_slot(slots: &mut Vec<u64>, slot: u64) -> bool
+    requires { IsStrictlyIncreasing slots.old.items }
+    ensures rise { IsStrictlyIncreasing slots.new.items }
+    ensures there { result ≡ among slot slots.old.items }
+    ensures items { slots.new.items ≡ without_slot slot slots.old.items }
+    ensures len { vec_len slots.new ≤ vec_len slots.old }
+    ensures capacity { vec_capacity slots.new ≡ vec_capacity slots.old }
+{
+    match place_of_slot(slots, slot) {
+        Ok(place) => {
+            let _ = slots.remove(place);
+            true
+        }
+        Err(_) => false,
+    }
+}

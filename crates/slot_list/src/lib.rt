@@ -1,0 +1,28 @@
+//! The versions of one key by rising slot, and the slots in which the key is held.
+#![tactic(auto)]
+
+mod edits;
+mod list;
+mod search;
+#[cfg(test)]
+mod tests;
+
+pub use list::SlotList;
+
+/// Where the account of a version is.
+#[derive(Clone, Copy, Debug, PartialEq, Eq)]
+pub enum Place {
+    /// In the write cache.
+    Cached,
+    /// In the image of a cell, as the record that starts `offset` bytes from its front.
+    Stored { cell: usize, offset: usize },
+}
+
+/// A key's account in a slot.
+#[derive(Clone, Copy, Debug, PartialEq, Eq)]
+pub struct Version {
+    pub slot: u64,
+    pub place: Place,
+    /// Whether the account is a tomb, one without lamports.
+    pub tomb: bool,
+}
