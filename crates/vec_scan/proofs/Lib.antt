@@ -1,0 +1,10 @@
+pub mod Forwards
+pub mod Located
+pub mod OneReading
+pub mod Padding
+pub mod Passing
+pub mod Rounding
+pub mod Scanning
+pub mod Sealing
+pub mod Searching
+pub mod Writing

@@ -1,0 +1,7 @@
+pub mod Fault
+pub mod Forward
+pub mod Gaps
+pub mod Image
+pub mod Inside
+pub mod Seal
+pub mod Written
