@@ -97,7 +97,7 @@ status_of ends.NoMemory = 6
 -- how the playing of some bytes ended, by its cause
 abbrev pub PlayedBytes : List ℕ → Option (List ℕ) → Option (List ℕ) → ℕ → ℕ → End → Type 0
 PlayedBytes bytes taken taken' k k' ends.Refused = IsNoScript bytes × EndsWith taken taken' k k' refused_line
-PlayedBytes bytes taken taken' k k' ends.Done = (lines : List Line) × IsScript bytes lines × PlayedAll taken taken' lines
+PlayedBytes bytes taken taken' k k' ends.Done = (k' ≡ k) × (lines : List Line) × IsScript bytes lines × PlayedAll taken taken' lines
 PlayedBytes bytes taken taken' k k' ends.SinkFault = Rose k k' × (lines : List Line) × IsScript bytes lines × CutShort taken taken' lines
 PlayedBytes bytes taken taken' k k' ends.NoMemory = Keeps taken taken' ⊎ ((lines : List Line) × IsScript bytes lines × CutShort taken taken' lines)
 PlayedBytes bytes taken taken' k k' ends.Usage = ⊥
@@ -110,6 +110,6 @@ Ended replay left left' s s' taken taken' k k' ends.Usage = (replay ≡ false) �
 Ended replay left left' s s' taken taken' k k' ends.ReadFault = (replay ≡ true) × Rose s s' × EndsWith taken taken' k k' read_fault_line
 Ended replay left left' s s' taken taken' k k' ends.TooLong = (replay ≡ true) × HadTooMany left × EndsWith taken taken' k k' too_long_line
 Ended replay left left' s s' taken taken' k k' ends.Refused = (replay ≡ true) × GaveNoScript left left' × EndsWith taken taken' k k' refused_line
-Ended replay left left' s s' taken taken' k k' ends.Done = (replay ≡ true) × IsDone left left' taken taken'
+Ended replay left left' s s' taken taken' k k' ends.Done = (replay ≡ true) × (s' ≡ s) × (k' ≡ k) × IsDone left left' taken taken'
 Ended replay left left' s s' taken taken' k k' ends.SinkFault = (replay ≡ true) × Rose k k' × IsCut left left' taken taken'
 Ended replay left left' s s' taken taken' k k' ends.NoMemory = (replay ≡ true) × (Keeps taken taken' ⊎ IsCut left left' taken taken')

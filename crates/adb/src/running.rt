@@ -152,6 +152,8 @@ pub fn run<R: AllocGlobal, S: Source, K: Sink>(
 
     // The source gave a script, was read to its end, and the sink took the whole journal.
     ensures done { result ≡ 0 → IsDone (S.left source.old) (S.left source.new) (K.taken sink.old) (K.taken sink.new) }
+    // Nothing failed then, the flush included.
+    ensures unfailed { result ≡ 0 → (S.faults source.new ≡ S.faults source.old) × (K.faults sink.new ≡ K.faults sink.old) }
 
     // The source gave no script, or too many bytes, and the sink took the line that says so.
     ensures refused { result ≡ 2 → IsRefused (S.left source.old) (S.left source.new) (K.taken sink.old) (K.taken sink.new) (K.faults sink.old) (K.faults sink.new) }

@@ -93,7 +93,7 @@ fn scripts_have_these_journals(rt: HostRuntime) -> Result<(), Fail> {
             "1 store 5 0a 18446744073709551615 00 0 0 - = ok\n1 load 5,9@all 0a = some 5 cached 18446744073709551615 00 0 0 -\n1 load -@18446744073709551614 abcd = none\n",
         ),
         (
-            "a journal is a script",
+            "replies that stand behind =",
             "1 store 5 01 100 = ok\n1 get 5@all 01 = some 5 cached 100 00 0 0 -\n",
             "1 store 5 01 100 00 0 0 - = ok\n1 load 5@all 01 = some 5 cached 100 00 0 0 -\n",
         ),

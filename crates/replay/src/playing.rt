@@ -45,6 +45,7 @@ fn play_call<K: Sink>(
     ensures ok { OnOk result (PlayedCall plain.old plain.new (K.taken sink.old) (K.taken sink.new) lane (call_of call.now)) }
     ensures err { OnErr result (CutCall plain.old (K.taken sink.old) (K.taken sink.new) lane (call_of call.now)) }
     ensures later { K.faults sink.old ≤ K.faults sink.new }
+    ensures kept { OnOk result (K.faults sink.new ≡ K.faults sink.old) }
     ensures cause { IsErrOf result Stop.SinkFault → Rose (K.faults sink.old) (K.faults sink.new) }
 {
     let reply = plain.step(lane, call)?;
@@ -63,6 +64,7 @@ fn play_line<K: Sink>(
     ensures ok { OnOk result (Played plain.old plain.new (K.taken sink.old) (K.taken sink.new) (line_seen line.now ∷ [])) }
     ensures err { OnErr result (PlayedInPart plain.old (K.taken sink.old) (K.taken sink.new) (line_seen line.now ∷ [])) }
     ensures later { K.faults sink.old ≤ K.faults sink.new }
+    ensures kept { OnOk result (K.faults sink.new ≡ K.faults sink.old) }
     ensures cause { IsErrOf result Stop.SinkFault → Rose (K.faults sink.old) (K.faults sink.new) }
 {
     match &line.order {
@@ -79,6 +81,7 @@ fn play_lines<K: Sink>(alloc: Global, lines: &[Line], sink: &mut K) -> Result<()
     ensures ok { OnOk result (PlayedAll (K.taken sink.old) (K.taken sink.new) (map line_seen lines.now)) }
     ensures err { OnErr result (CutShort (K.taken sink.old) (K.taken sink.new) (map line_seen lines.now)) }
     ensures later { K.faults sink.old ≤ K.faults sink.new }
+    ensures kept { OnOk result (K.faults sink.new ≡ K.faults sink.old) }
     ensures cause { IsErrOf result Stop.SinkFault → Rose (K.faults sink.old) (K.faults sink.new) }
 {
     let mut plain = Plain::new(alloc);
@@ -98,6 +101,7 @@ pub fn run_replay<R: AllocGlobal, K: Sink>(rt: &R, script: &Script, sink: &mut K
     ensures done { result ≡ 0 → PlayedAll (K.taken sink.old) (K.taken sink.new) (lines_seen script.now) }
     ensures cut { (result ≡ 4) ⊎ (result ≡ 6) → CutShort (K.taken sink.old) (K.taken sink.new) (lines_seen script.now) }
     ensures later { K.faults sink.old ≤ K.faults sink.new }
+    ensures kept { result ≡ 0 → K.faults sink.new ≡ K.faults sink.old }
     ensures sink_fault { result ≡ 4 → Rose (K.faults sink.old) (K.faults sink.new) }
 {
     match play_lines(rt.alloc(), &script.lines, sink) {

@@ -1,4 +1,4 @@
-use Rattle.std.proofs.Common.{◌≤◌, map, take}
+use Rattle.std.proofs.Common.{◌≡◌, map, take}
 use Rattle.script.specs.Seen.{line_seen}
 use Rattle.replay.specs.Plain.{start}
 use Rattle.replay.specs.Journaled.{Played}
@@ -8,5 +8,5 @@ use Rattle.replay.proofs.playing.play_lines.Given as goal
 abbrev pub invariant-loop-line : goal.invariant-loop-line
 invariant-loop-line g l = record {
   played : Played start l.plain (g.K.Sink.taken l.fn.sink) (g.K.Sink.taken l.sink) (map line_seen (take l.line-index l.lines));
-  later : g.K.Sink.faults l.fn.sink ≤ g.K.Sink.faults l.sink;
+  kept : g.K.Sink.faults l.sink ≡ g.K.Sink.faults l.fn.sink;
 }

@@ -1,4 +1,4 @@
-use Rattle.std.proofs.Common.{ℕ, ◌<◌, List, length, take, Option, None, Some, IfSome, OnErr, Result, Ok, Err, ap, arith, length-append}
+use Rattle.std.proofs.Common.{ℕ, ◌<◌, List, length, take, Option, None, Some, IfSome, OnErr, Result, Ok, Err, ap, ◌∙◌, arith, length-append}
 use Rattle.std.proofs.lemmas.List.{length-take}
 use Rattle.std.specs.Io.KnownBytes.{Appends}
 use Rattle.std.proofs.Math.Seq.{take-add}
@@ -25,5 +25,5 @@ pub loop-done-preserved : goal.loop-done-preserved
 loop-done-preserved g c = record {
   taken = rw take-add (Appends-trans _ _ _ _ _ c.loop-done.invariant.taken (rw c.split_at.ensures.back at c.in_ok-done.ensures.bytes));
   within = omega (arith, c.in_ok-done.ensures.bound, c.split_at.ensures.back_len);
-  later = omega (arith, c.loop-done.invariant.later, c.in_ok-done.ensures.cause.later);
+  kept = c.in_ok-done.ensures.cause.kept ∙ c.loop-done.invariant.kept;
 }
