@@ -1,0 +1,15 @@
+use Rattle.std.proofs.Common.{refl}
+use Rattle.accounts_index.specs.declared.entry.Entry.{Entry}
+use Rattle.accounts_index.proofs.Lookups.{IsWith-insert}
+use Rattle.accounts_index.proofs.Changes.{AreEntries-new}
+use Rattle.accounts_index.proofs.edits.insert.Goals as goal
+
+pub returns-clause-ok : goal.returns-clause-ok
+returns-clause-ok c =
+    let now : Entry = record { key = c.args.key; list = c.args.list; expected = c.args.expected } in
+    rw c.in_ok-insert.ensures.items (IsWith-insert c.args.entries.now.items c.args.key.0 c.args.place c.requires.gap now refl)
+
+pub returns-clause-entries : goal.returns-clause-entries
+returns-clause-entries c =
+    let now : Entry = record { key = c.args.key; list = c.args.list; expected = c.args.expected } in
+    rw c.in_ok-insert.ensures.items (AreEntries-new c.args.entries.now.items c.args.key.0 c.args.place c.requires.gap now refl c.requires.entries c.requires.room c.requires.used)

@@ -1,0 +1,196 @@
+ghost use Rattle.std.specs.Prelude.{◌≡◌, ℕ, ◌+◌, ◌<◌, ◌≤◌, ◌++◌, ◌∷◌, [], true, false, List, length, OnOk, OnErr, IsOk, IsSome};
+ghost use Rattle.view_sets.specs.Slots.{among};
+ghost use Rattle.slot_list.specs.Versions.{at, put, without, rehomed, with_slot, without_slot};
+ghost use Rattle.accounts_index.specs.Index.{kept, IsWith};
+ghost use Rattle.accounts_index.specs.Inside.{seen, AreEntries, AreEntriesBut};
+ghost use Rattle.accounts_index.specs.Places.{IsGap};
+
+use crate::entry::Entry;
+use crate::search::find_place;
+use adb_model::{Key, Slot};
+use slot_list::{Place, SlotList, Version};
+use std::alloc::{AllocError, Global};
+
+/// Puts a version in, in place of the one that the key has in its slot.
+pub fn upsert(
+    entries: &mut Vec<Entry>,
+    alloc: Global,
+    key: &Key,
+    version: Version,
+) -> Result<(), AllocError>
+    requires { AreEntries entries.old.items }
+    ensures entries { AreEntries entries.new.items }
+    ensures ok { OnOk result (let old = kept (seen entries.old.items) key.now.0 in
+        IsWith (seen entries.old.items) (seen entries.new.items) key.now.0 (record old { versions = put version old.versions })) }
+    ensures err { OnErr result (seen entries.new.items ≡ seen entries.old.items) }
+    ensures replaces { IsSome (at version.slot (kept (seen entries.old.items) key.now.0).versions) → IsOk result }
+{
+    match find_place(entries, key) {
+        Ok(place) => {
+            let entry = &mut entries[place];
+            entry.list.put(version)
+        }
+        Err(place) => {
+            let mut list = SlotList::new(alloc);
+            list.put(version)?;
+            insert(entries, place, *key, list, Vec::new(alloc))
+        }
+    }
+}
+
+/// Takes the version of a slot out.
+pub fn drop_version(entries: &mut Vec<Entry>, key: &Key, slot: Slot)
+    requires entries { AreEntries entries.old.items }
+    requires there { IsSome (at slot (kept (seen entries.old.items) key.now.0).versions) }
+    ensures entries { AreEntries entries.new.items }
+    ensures kept { let old = kept (seen entries.old.items) key.now.0 in
+        IsWith (seen entries.old.items) (seen entries.new.items) key.now.0 (record old { versions = without slot old.versions }) }
+{
+    match find_place(entries, key) {
+        Ok(place) => {
+            let entry = &mut entries[place];
+            let _ = entry.list.take(slot);
+            drop_unused(entries, place);
+        }
+        Err(_) => unreachable!(),
+    }
+}
+
+/// Lets an entry go of whose key nothing is kept.
+fn drop_unused(entries: &mut Vec<Entry>, place: usize)
+    requires { AreEntriesBut entries.old.items place }
+    ensures entries { AreEntries entries.new.items }
+    ensures kept { (q : List ℕ) → kept (seen entries.new.items) q ≡ kept (seen entries.old.items) q }
+{
+    if !entries[place].is_used() {
+        let _ = entries.remove(place);
+    }
+}
+
+/// A new entry at its place.
+fn insert(
+    entries: &mut Vec<Entry>,
+    place: usize,
+    key: Key,
+    list: SlotList,
+    expected: Vec<u64>,
+) -> Result<(), AllocError>
+    requires entries { AreEntries entries.old.items }
+    requires gap { IsGap entries.old.items key.0 place }
+    requires room { length expected.items ≤ list.spare }
+    requires used { 0 < length list.versions + length list.held + length expected.items }
+    ensures entries { AreEntries entries.new.items }
+    ensures ok { OnOk result (IsWith (seen entries.old.items) (seen entries.new.items) key.0
+        (record { versions = list.versions; held = list.held; expected = expected.items })) }
+    ensures err { OnErr result (seen entries.new.items ≡ seen entries.old.items) }
+{
+    let entry = Entry {
+        key,
+        list,
+        expected,
+    };
+    entries.insert(place, entry)?;
+    Ok(())
+}
+
+/// Gives the version of a slot another place.
+pub fn rehome(entries: &mut Vec<Entry>, key: &Key, slot: Slot, place: Place)
+    requires entries { AreEntries entries.old.items }
+    requires there { IsSome (at slot (kept (seen entries.old.items) key.now.0).versions) }
+    ensures entries { AreEntries entries.new.items }
+    ensures kept { let old = kept (seen entries.old.items) key.now.0 in
+        IsWith (seen entries.old.items) (seen entries.new.items) key.now.0 (record old { versions = rehomed slot place old.versions }) }
+{
+    match find_place(entries, key) {
+        Ok(found) => {
+            let entry = &mut entries[found];
+            entry.list.rehome(slot, place);
+        }
+        Err(_) => unreachable!(),
+    }
+}
+
+/// Expects a key to be held in a slot, and makes the room for it.
+pub fn expect(
+    entries: &mut Vec<Entry>,
+    alloc: Global,
+    key: &Key,
+    slot: Slot,
+) -> Result<(), AllocError>
+    requires { AreEntries entries.old.items }
+    ensures entries { AreEntries entries.new.items }
+    ensures ok { OnOk result (let old = kept (seen entries.old.items) key.now.0 in
+        IsWith (seen entries.old.items) (seen entries.new.items) key.now.0 (record old { expected = old.expected ++ slot ∷ [] })) }
+    ensures err { OnErr result (seen entries.new.items ≡ seen entries.old.items) }
+{
+    match find_place(entries, key) {
+        Ok(place) => {
+            let entry = &mut entries[place];
+            entry.list.room(entry.expected.len() + 1)?;
+            entry.expected.push(slot)?;
+            Ok(())
+        }
+        Err(place) => {
+            let mut list = SlotList::new(alloc);
+            list.room(1)?;
+            let mut expected = Vec::new(alloc);
+            expected.push(slot)?;
+            insert(entries, place, *key, list, expected)
+        }
+    }
+}
+
+/// Expects a key to be held in a slot no longer.
+pub fn unexpect(entries: &mut Vec<Entry>, key: &Key, slot: Slot)
+    requires { AreEntries entries.old.items }
+    ensures entries { AreEntries entries.new.items }
+    ensures kept { let old = kept (seen entries.old.items) key.now.0 in
+        IsWith (seen entries.old.items) (seen entries.new.items) key.now.0 (record old { expected = without_slot slot old.expected }) }
+{
+    if let Ok(place) = find_place(entries, key) {
+        let entry = &mut entries[place];
+        forget(&mut entry.expected, slot);
+        drop_unused(entries, place);
+    }
+}
+
+/// Holds a key in a slot in which it is expected.
+pub fn hold(entries: &mut Vec<Entry>, key: &Key, slot: Slot)
+    requires entries { AreEntries entries.old.items }
+    requires expected { among slot (kept (seen entries.old.items) key.now.0).expected ≡ true }
+    requires absent { among slot (kept (seen entries.old.items) key.now.0).held ≡ false }
+    ensures entries { AreEntries entries.new.items }
+    ensures kept { let old = kept (seen entries.old.items) key.now.0 in
+        IsWith (seen entries.old.items) (seen entries.new.items) key.now.0
+        (record old { held = with_slot slot old.held; expected = without_slot slot old.expected }) }
+{
+    match find_place(entries, key) {
+        Ok(place) => {
+            let entry = &mut entries[place];
+            entry.list.hold(slot);
+            forget(&mut entry.expected, slot);
+        }
+        Err(_) => unreachable!(),
+    }
+}
+
+/// Holds a key in a slot no longer.
+pub fn unhold(entries: &mut Vec<Entry>, key: &Key, slot: Slot)
+    requires { AreEntries entries.old.items }
+    ensures entries { AreEntries entries.new.items }
+    ensures kept { let old = kept (seen entries.old.items) key.now.0 in
+        IsWith (seen entries.old.items) (seen entries.new.items) key.now.0 (record old { held = without_slot slot old.held }) }
+{
+    if let Ok(place) = find_place(entries, key) {
+        let entry = &mut entries[place];
+        let _ = entry.list.unhold(slot);
+        drop_unused(entries, place);
+    }
+}
+
+/// Takes a slot out of a list.
+fn forget(slots: &mut Vec<u64>, slot: u64)
+    ensures { slots.new.items ≡ without_slot slot slots.old.items }
+{
+    slots.retain(|s| *s != slot);
+}

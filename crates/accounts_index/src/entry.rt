@@ -1,0 +1,55 @@
+ghost use Rattle.std.specs.Prelude.{◌≡◌, ◌&&◌, ◌↔◌, IsTrue, nat_lt, length};
+ghost use Rattle.std.specs.List.{list_any};
+ghost use Rattle.accounts_index.specs.Index.{is_crowded, is_stored};
+
+use adb_model::Key;
+use slot_list::{Place, SlotList, Version};
+
+/// A key with what is kept of it.
+#[derive(Drop)]
+pub struct Entry {
+    pub key: Key,
+    pub list: SlotList,
+    /// The slots in which the key will be held, each with room in `list`.
+    pub expected: Vec<u64>,
+}
+
+impl Entry {
+    ghost use Rattle.accounts_index.specs.Inside.{IsUsed};
+
+    /// Whether anything is kept of the key.
+    pub fn is_used(&self) -> bool
+        ensures { IsTrue result ↔ IsUsed self.now }
+    {
+        !self.list.versions().is_empty()
+            || !self.list.held().is_empty()
+            || !self.expected.is_empty()
+    }
+
+    pub fn has_versions(&self) -> bool
+        ensures { result ≡ nat_lt 0 (length self.now.list.versions) }
+    {
+        !self.list.versions().is_empty()
+    }
+
+    /// Whether the key has two or more versions, or a stored one that is a tomb.
+    pub fn is_crowded(&self) -> bool
+        ensures { result ≡ is_crowded self.now.list.versions }
+    {
+        self.list.versions().len() > 1 || has_stored_tomb(self.list.versions())
+    }
+}
+
+fn has_stored_tomb(versions: &[Version]) -> bool
+    ensures { result ≡ list_any (λ v. v.tomb && is_stored v.place) versions.now }
+{
+    versions
+        .iter()
+        .any(|version| version.tomb && is_stored(version.place))
+}
+
+fn is_stored(place: Place) -> bool
+    ensures { result ≡ is_stored place }
+{
+    matches!(place, Place::Stored { .. })
+}

@@ -1,0 +1,137 @@
+ghost use Rattle.std.specs.Prelude.{◌≡◌, ◌+◌, ◌-◌, ◌*◌, ◌^◌, ◌≤◌, ◌++◌, ◌∷◌, [], true, false, length, take, map, option_map, option_copied, MatchOption, IfOk, OnOk, OnErr, IsOk, IsSome};
+ghost use Rattle.view_sets.specs.Slots.{among};
+ghost use Rattle.slot_list.specs.Versions.{at, put, without, rehomed, with_slot, without_slot};
+ghost use Rattle.accounts_index.specs.Index.{kept, nothing, IsWith, key_after, crowded_after};
+
+use crate::bin::Bin;
+use crate::steps::Steps;
+use adb_model::{Key, Slot};
+use arrayvec::ArrayVec;
+use slot_list::{Place, SlotList, Version};
+use std::alloc::{AllocError, Global};
+use std::marker::Model;
+use std::sync::ledger::Ledger;
+
+/// Keys with what is kept of them: versions by slot, and the slots in which a key is held or expected to be.
+#[derive(Drop)]
+pub struct AccountsIndex {
+    bin: Bin,
+}
+
+impl Model for AccountsIndex {
+    ghost use Rattle.accounts_index.specs.Index.{Index};
+
+    ghost Value = { Index };
+
+    ghost view = { λ i. i.bin };
+}
+
+impl AccountsIndex {
+    /// An index without keys.
+    pub fn new(alloc: Global) -> Result<AccountsIndex, AllocError>
+        ensures { IfOk result (λ index. index ≡ []) }
+    {
+        Ok(AccountsIndex {
+            bin: Bin::new(alloc),
+        })
+    }
+
+    /// The list of a key, or `None` where nothing is kept of it. Each comparison of two keys is a step.
+    pub fn find<L: Ledger>(&self, key: &Key, steps: &mut Steps<L>) -> Option<&SlotList>
+        ensures found { MatchOption (option_copied result)
+            (kept self.now key.now.0 ≡ nothing)
+            (λ list. (list.versions ≡ (kept self.now key.now.0).versions) × (list.held ≡ (kept self.now key.now.0).held)) }
+        ensures later { steps.old ≤ steps.new }
+        ensures cost { 2 ^ (steps.new - steps.old) ≤ 2 * length self.now + 1 }
+    {
+        self.bin.find(key, steps)
+    }
+
+    /// The version that a key has in a slot.
+    pub fn version(&self, key: &Key, slot: Slot) -> Option<Version>
+        ensures { result ≡ at slot (kept self.now key.now.0).versions }
+    {
+        self.bin.version(key, slot)
+    }
+
+    /// Puts a version in, in place of the one that the key has in its slot, which takes no memory.
+    pub fn upsert(&mut self, key: &Key, version: Version) -> Result<(), AllocError>
+        ensures ok { OnOk result (let old = kept self.old key.now.0 in
+            IsWith self.old self.new key.now.0 (record old { versions = put version old.versions })) }
+        ensures err { OnErr result (self.new ≡ self.old) }
+        ensures replaces { IsSome (at version.slot (kept self.old key.now.0).versions) → IsOk result }
+    {
+        self.bin.upsert(key, version)
+    }
+
+    /// Takes a version out. It takes no memory.
+    pub fn drop_version(&mut self, key: &Key, slot: Slot)
+        requires { IsSome (at slot (kept self.old key.now.0).versions) }
+        ensures { let old = kept self.old key.now.0 in
+            IsWith self.old self.new key.now.0 (record old { versions = without slot old.versions }) }
+    {
+        self.bin.drop_version(key, slot);
+    }
+
+    /// Gives a version another place. It takes no memory.
+    pub fn rehome(&mut self, key: &Key, slot: Slot, place: Place)
+        requires { IsSome (at slot (kept self.old key.now.0).versions) }
+        ensures { let old = kept self.old key.now.0 in
+            IsWith self.old self.new key.now.0 (record old { versions = rehomed slot place old.versions }) }
+    {
+        self.bin.rehome(key, slot, place);
+    }
+
+    /// Expects a key to be held in a slot, and makes the room that `hold` needs.
+    pub fn expect(&mut self, key: &Key, slot: Slot) -> Result<(), AllocError>
+        ensures ok { OnOk result (let old = kept self.old key.now.0 in
+            IsWith self.old self.new key.now.0 (record old { expected = old.expected ++ slot ∷ [] })) }
+        ensures err { OnErr result (self.new ≡ self.old) }
+    {
+        self.bin.expect(key, slot)
+    }
+
+    /// Expects a key to be held in a slot no longer.
+    pub fn unexpect(&mut self, key: &Key, slot: Slot)
+        ensures { let old = kept self.old key.now.0 in
+            IsWith self.old self.new key.now.0 (record old { expected = without_slot slot old.expected }) }
+    {
+        self.bin.unexpect(key, slot);
+    }
+
+    /// Holds a key in a slot in which it is expected, and expects it there no longer. It takes no memory.
+    pub fn hold(&mut self, key: &Key, slot: Slot)
+        requires expected { among slot (kept self.old key.now.0).expected ≡ true }
+        requires absent { among slot (kept self.old key.now.0).held ≡ false }
+        ensures { let old = kept self.old key.now.0 in
+            IsWith self.old self.new key.now.0
+            (record old { held = with_slot slot old.held; expected = without_slot slot old.expected }) }
+    {
+        self.bin.hold(key, slot);
+    }
+
+    /// Holds a key in a slot no longer.
+    pub fn unhold(&mut self, key: &Key, slot: Slot)
+        ensures { let old = kept self.old key.now.0 in
+            IsWith self.old self.new key.now.0 (record old { held = without_slot slot old.held }) }
+    {
+        self.bin.unhold(key, slot);
+    }
+
+    /// The least key above another, or of all keys, that has a version.
+    pub fn key_after(&self, after: Option<&Key>) -> Option<Key>
+        ensures { option_map (λ k. k.0) result ≡ key_after self.now (option_map (λ k. k.now.0) after.entry) }
+    {
+        self.bin.key_after(after)
+    }
+
+    /// Fills `into` with the first `most` crowded keys above another, or of all keys, rising: those that have two
+    /// or more versions, or a stored one that is a tomb.
+    pub fn crowded_after(&self, after: Option<&Key>, into: &mut ArrayVec<Key, 256>, most: usize)
+        requires empty { into.old.items ≡ [] }
+        requires most { most ≤ 256 }
+        ensures { map (λ k. k.0) into.new.items ≡ take most (crowded_after self.now (option_map (λ k. k.now.0) after.entry)) }
+    {
+        self.bin.crowded_after(after, into, most);
+    }
+}

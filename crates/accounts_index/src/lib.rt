@@ -1,0 +1,15 @@
+//! The index: of each key, its versions by slot, and the slots in which it is held.
+#![tactic(auto)]
+
+mod bin;
+mod edits;
+mod entry;
+mod index;
+mod search;
+mod steps;
+#[cfg(test)]
+mod tests;
+mod walk;
+
+pub use index::AccountsIndex;
+pub use steps::Steps;
