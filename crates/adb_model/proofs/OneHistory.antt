@@ -5,11 +5,7 @@ use Rattle.adb_model.specs.Call.{Call, Reply, Event}
 use Rattle.adb_model.specs.Step.{step}
 use Rattle.adb_model.specs.History.{state_after, IsLegal}
 use Rattle.adb_model.specs.Plays.{Line, Follow, Plays}
-
--- what is legal goes on being legal
-pub legal_rest : (m : State) (h rest : List Event) → IsLegal m (h ++ rest) → IsLegal (state_after m h) rest
-legal_rest m [] rest legal = legal
-legal_rest m (e ∷ h) rest legal = legal_rest (step m e.pass e.call).0 h rest legal.1
+use Rattle.adb_model.proofs.Histories.{legal_rest}
 
 -- two replies to one call at one state
 same_event : (m : State) (e f : Event) → e.pass ≡ f.pass → e.call ≡ f.call → e.reply ≡ (step m e.pass e.call).1 → f.reply ≡ (step m f.pass f.call).1 → e ≡ f

@@ -2,8 +2,9 @@
 use Rattle.std.proofs.Common.{◌≡◌, ◌≢◌, ℕ, ◌<◌, eqb, ltb, Bool, true, false, List, [], ◌∷◌, AllPairs, Contains, fold, nat_cmp, refl, sym, ◌∙◌, subst, inl, inr, ◌⊎◌, arith}
 use Rattle.std.proofs.lemmas.Bool.{true≢false, eqb-true, eq-eqb, ltb-true, ltb-false}
 use Rattle.std.proofs.lemmas.List.Elements.{All-cons, All-contains, Contains-get_or}
-use Rattle.std.specs.List.{dedup}
-use Rattle.std.specs.List.Sorted.{IsSorted, IsPermutation}
+use Rattle.std.specs.List.{dedup, IsAllAdjacentAnswer}
+use Rattle.std.specs.Bool.{OnTrue}
+use Rattle.std.specs.List.Sorted.{IsSorted, IsPermutation, IsStrictlyIncreasing}
 use Rattle.std.proofs.lemmas.List.Kept.{AllPairs-cons, AllPairs-from_increasing, Contains-dedup_nat, Contains-from_dedup}
 use Rattle.std.proofs.lemmas.List.Sorted.{Contains-permutation, IsPermutation-sym}
 use Rattle.std.proofs.lemmas.Map.Keys.{IsStrictlyIncreasing-dedup}
@@ -123,3 +124,12 @@ sorted_once xs ys zs moved sorted e =
     rising_is xs zs up
     (λ z c. subst (λ l. Contains l z) (sym e) (Contains-dedup_nat ys z (Contains-permutation xs ys z moved c)))
     (λ z c. Contains-permutation ys xs z (IsPermutation-sym xs ys moved) (Contains-from_dedup eqb ys z (subst (λ l. Contains l z) e c)))
+
+-- numbers that rise already stay as they are
+pub rising_of_increasing : (xs : List ℕ) → IsStrictlyIncreasing xs → xs ≡ rising nat_cmp xs
+rising_of_increasing xs up = rising_is xs xs (AllPairs-from_increasing xs up) (λ z c. c) (λ z c. c)
+
+-- each number is below the next where all pairs of neighbours were found so
+pub increasing_from_neighbours : (xs : List ℕ) (all : Bool) → IsAllAdjacentAnswer (λ x y below. below ≡ ltb x y) xs all → OnTrue all (IsStrictlyIncreasing xs)
+increasing_from_neighbours xs true each = λ k within. ltb-true _ _ (sym (each k 0 within))
+increasing_from_neighbours xs false each = tt

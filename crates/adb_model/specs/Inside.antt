@@ -17,9 +17,9 @@ pub record IsAccount (a : account.Inside) : Type 0 where
 
 -- the fields as contracts see them
 abbrev pub view_seen : view.Inside → View
-view_seen v = record { ancestors = v.ancestors.items; max_root = v.max_root }
+view_seen v = record { ancestors = v.ancestors.value.items; max_root = v.max_root }
 
 -- the ancestors rise without repeats, and are not too many
 pub record IsView (v : view.Inside) : Type 0 where
-  pub rise : IsStrictlyIncreasing v.ancestors.items
-  pub most : length v.ancestors.items ≤ 8192
+  pub rise : IsStrictlyIncreasing v.ancestors.value.items
+  pub most : length v.ancestors.value.items ≤ 8192

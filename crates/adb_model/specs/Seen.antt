@@ -12,6 +12,7 @@ use Rattle.adb_model.specs.declared.call.Place.{Place}
 use Rattle.adb_model.specs.declared.call.Place.TheVariants as places
 use Rattle.adb_model.specs.declared.call.Refusal.{Refusal}
 use Rattle.adb_model.specs.declared.call.Refusal.TheVariants as refusals
+use Rattle.adb_model.specs.declared.call.Stats.{Stats}
 use Rattle.adb_model.specs.declared.call.Reply.{Reply}
 use Rattle.adb_model.specs.declared.call.Reply.TheVariants as replies
 use Rattle.adb_model.specs.declared.call.Event.{Event}
@@ -37,26 +38,49 @@ place_in t = (t.slot, t.account)
 abbrev pub state_with : List (ℕ × Key × Arc Account Global) → List ℕ → State
 state_with stores roots = record (fresh 0 1) { stores = map stored_of stores; roots = roots }
 
+-- the machine's call
 abbrev pub call_of : Call → machine.Call
 call_of (calls.Store slot key account) = machine.Store slot key.0 account.value
 call_of (calls.Root slot) = machine.Root slot
+call_of (calls.Purge slot) = machine.Purge slot
 call_of (calls.Load view key) = machine.Load view key.0
+call_of calls.Stats = machine.Stats
 
+-- the machine's place
 abbrev pub place_of : Place → machine.Place
 place_of places.Cached = machine.Cached
 place_of (places.InStorage id) = machine.InStorage id
 
+-- the machine's refusal
 abbrev pub refusal_of : Refusal → machine.Refusal
 refusal_of (refusals.SlotRooted slot newest) = machine.SlotRooted slot newest
 refusal_of (refusals.RootOrder slot newest) = machine.RootOrder slot newest
+refusal_of (refusals.Rooted slot) = machine.Rooted slot
 refusal_of (refusals.ViewTooOld max_root cleaned) = machine.ViewTooOld max_root cleaned
 refusal_of (refusals.TooManyPins most) = machine.TooManyPins most
 
+-- the machine's counts
+abbrev pub counts_of : Stats → machine.Counts
+counts_of s = record {
+  cached = s.cached;
+  filling = s.filling;
+  live = s.live;
+  retired = s.retired;
+  named = s.named;
+  rows = s.rows;
+  bytes = s.bytes;
+  pins = s.pins;
+}
+
+-- the machine's reply
 abbrev pub reply_of : Reply → machine.Reply
 reply_of replies.Done = machine.Done
 reply_of (replies.Refused refusal) = machine.Refused (refusal_of refusal)
+reply_of (replies.Purged keys) = machine.Purged keys
 reply_of replies.NotFound = machine.NotFound
 reply_of (replies.Found slot place account) = machine.Found slot (place_of place) account.value
+reply_of (replies.Counted stats) = machine.Counted (counts_of stats)
 
+-- the machine's event
 abbrev pub event_of : Event → machine.Event
 event_of e = record { pass = e.pass; call = call_of e.call; reply = reply_of e.reply }

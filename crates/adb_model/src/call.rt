@@ -19,11 +19,17 @@ pub enum Call {
     Root {
         slot: Slot,
     },
+    /// Drop the stores of a slot that is no root.
+    Purge {
+        slot: Slot,
+    },
     /// Load what a view sees of a key.
     Load {
         view: View,
         key: Key,
     },
+    /// Count what the store has.
+    Stats,
 }
 
 /// Where a loaded version stands.
@@ -42,10 +48,33 @@ pub enum Refusal {
     SlotRooted { slot: Slot, newest: Slot },
     /// A root that isn't above the newest root.
     RootOrder { slot: Slot, newest: Slot },
+    /// A purge of a slot that is a root.
+    Rooted { slot: Slot },
     /// A load at a view whose roots end below the slot up to which was cleaned.
     ViewTooOld { max_root: u64, cleaned: Slot },
     /// A load by a pass that has as many pins as a pass may have.
     TooManyPins { most: u64 },
+}
+
+/// What the store has at one time.
+#[derive(Clone, Copy, Debug, PartialEq, Eq)]
+pub struct Stats {
+    /// Pairs of a slot and a key whose latest account stands in the write cache.
+    pub cached: u64,
+    /// Storages that are being filled.
+    pub filling: u64,
+    /// Storages that loads are answered from.
+    pub live: u64,
+    /// Storages that are no longer of use.
+    pub retired: u64,
+    /// Pairs of a slot and a key that a load finds in a storage.
+    pub named: u64,
+    /// Rows of the live storages, those that no load finds any more among them.
+    pub rows: u64,
+    /// Bytes that all storages have together.
+    pub bytes: u64,
+    /// What keeps storages as they are: pins of passes, open shrinks, and the storages of an open snapshot.
+    pub pins: u64,
 }
 
 /// What a caller is told.
@@ -57,6 +86,10 @@ pub enum Reply {
     Refused {
         refusal: Refusal,
     },
+    /// The slot's stores are gone, which were of so many different keys.
+    Purged {
+        keys: u64,
+    },
     /// The view sees no account of the key.
     NotFound,
     /// The view sees this version.
@@ -64,6 +97,10 @@ pub enum Reply {
         slot: Slot,
         place: Place,
         account: Arc<Account>,
+    },
+    /// What the store has.
+    Counted {
+        stats: Stats,
     },
 }
 
@@ -89,10 +126,12 @@ impl Call {
                 account: account.clone()?,
             }),
             Call::Root { slot } => Ok(Call::Root { slot: *slot }),
+            Call::Purge { slot } => Ok(Call::Purge { slot: *slot }),
             Call::Load { view, key } => Ok(Call::Load {
                 view: view.try_copy(alloc)?,
                 key: *key,
             }),
+            Call::Stats => Ok(Call::Stats),
         }
     }
 }

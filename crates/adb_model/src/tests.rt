@@ -127,6 +127,10 @@ fn views_have_so_many_ancestors(rt: HostRuntime) -> Result<(), Fail> {
     slots.push(3)?;
     let refused = View::new(alloc, &slots, 0).err();
     assert_eq!(rt; refused, Some(ViewFault::TooManyAncestors { count: 8193 }));
+    let refused = View::from_vec(alloc, slots, 0).err();
+    assert_eq!(rt; refused, Some(ViewFault::TooManyAncestors { count: 8193 }));
+    let risen = View::from_vec(alloc, vec![in alloc; 4u64, 6, 7]?, 5)?;
+    assert_eq!(rt; risen.ancestors(), [4, 6, 7].as_slice());
     Ok(())
 }
 
@@ -145,5 +149,9 @@ fn a_copied_call_shares_its_account(rt: HostRuntime) -> Result<(), Fail> {
     }
     let root = Call::Root { slot: 5 }.try_copy(alloc)?;
     assert!(rt; matches!(&root, Call::Root { slot: 5 }));
+    let purge = Call::Purge { slot: 5 }.try_copy(alloc)?;
+    assert!(rt; matches!(&purge, Call::Purge { slot: 5 }));
+    let stats = Call::Stats.try_copy(alloc)?;
+    assert!(rt; matches!(&stats, Call::Stats));
     Ok(())
 }

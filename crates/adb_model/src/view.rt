@@ -1,4 +1,5 @@
-ghost use Rattle.std.specs.Prelude.{◌≡◌, ◌<◌, ◌≤◌, ◌↔◌, ◌⊎◌, length, IfOk, IfErr, IsErrOf};
+ghost use Rattle.std.specs.Prelude.{◌≡◌, ◌<◌, ◌≤◌, ◌↔◌, ◌⊎◌, length, IsOk, IfOk, IfErr, IsErrOf};
+ghost use Rattle.std.specs.Bool.{OnTrue};
 ghost use Rattle.std.specs.List.Sorted.{IsStrictlyIncreasing};
 ghost use Rattle.adb_model.specs.View.{view_of};
 ghost use Rattle.std.specs.Ordering.{nat_cmp};
@@ -8,6 +9,7 @@ ghost use Rattle.adb_model.specs.declared.view.ViewFault.TheVariants.{NoMemory};
 use crate::key::Slot;
 use std::alloc::{AllocError, Global};
 use std::marker::Model;
+use std::sync::Arc;
 
 /// The most ancestors that a view is made of.
 pub const MAX_ANCESTORS: usize = 8192;
@@ -17,7 +19,7 @@ pub const MAX_ANCESTORS: usize = 8192;
 /// Contracts see it as the rising list of its ancestors, without repeats, and the greatest root.
 #[derive(Drop)]
 pub struct View {
-    ancestors: Vec<Slot>,
+    ancestors: Arc<Vec<Slot>>,
     max_root: u64,
 }
 
@@ -50,16 +52,37 @@ impl From<AllocError> for ViewFault {
     }
 }
 
-// The slots, rising and each once.
-fn rising_slots(alloc: Global, slots: &[Slot]) -> Result<Vec<Slot>, AllocError>
-    ensures slots { IfOk result (λ made. made.items ≡ rising nat_cmp slots.now) }
-    ensures rise { IfOk result (λ made. IsStrictlyIncreasing made.items) }
-    ensures most { IfOk result (λ made. length made.items ≤ length slots.now) }
+// Refuses more slots than a view is made of.
+fn check_count(count: usize) -> Result<(), ViewFault>
+    ensures few { IsOk result ↔ (count ≤ 8192) }
+    ensures err { IfErr result (λ fault. fault ≡ ViewFault.TooManyAncestors count) }
 {
-    let mut made = Vec::from_slice(alloc, slots)?;
+    if count > MAX_ANCESTORS {
+        return Err(ViewFault::TooManyAncestors { count });
+    }
+    Ok(())
+}
+
+// Whether each slot is below the next.
+fn do_rise(slots: &[Slot]) -> bool
+    ensures { OnTrue result (IsStrictlyIncreasing slots.now) }
+{
+    slots.is_sorted_by(|one, next| one < next)
+}
+
+// The slots, rising and each once. Those that rise already, as mostly, are only looked over.
+fn rising_slots(slots: Vec<Slot>) -> Vec<Slot>
+    ensures slots { result.items ≡ rising nat_cmp slots.items }
+    ensures rise { IsStrictlyIncreasing result.items }
+    ensures most { length result.items ≤ length slots.items }
+{
+    if do_rise(&slots) {
+        return slots;
+    }
+    let mut made = slots;
     made.sort_unstable();
     made.dedup();
-    Ok(made)
+    made
 }
 
 impl View {
@@ -72,15 +95,27 @@ impl View {
         ensures too_many { IsErrOf result (ViewFault.TooManyAncestors (length ancestors.now)) ↔ (8192 < length ancestors.now) }
         ensures err { IfErr result (λ fault. (fault ≡ ViewFault.NoMemory) ⊎ (fault ≡ ViewFault.TooManyAncestors (length ancestors.now))) }
     {
-        let count = ancestors.len();
-        if count > MAX_ANCESTORS {
-            return Err(ViewFault::TooManyAncestors { count });
+        check_count(ancestors.len())?;
+        View::from_vec(alloc, Vec::from_slice(alloc, ancestors)?, max_root)
+    }
+
+    /// The same of a list that the view takes over.
+    ///
+    /// # Errors
+    /// `TooManyAncestors` exactly where more than [`MAX_ANCESTORS`] slots are given, repeats counted.
+    pub fn from_vec(alloc: Global, ancestors: Vec<Slot>, max_root: u64) -> Result<View, ViewFault>
+        ensures ok { IfOk result (λ view. view ≡ view_of ancestors.items max_root) }
+        ensures too_many { IsErrOf result (ViewFault.TooManyAncestors (length ancestors.items)) ↔ (8192 < length ancestors.items) }
+        ensures err { IfErr result (λ fault. (fault ≡ ViewFault.NoMemory) ⊎ (fault ≡ ViewFault.TooManyAncestors (length ancestors.items))) }
+    {
+        check_count(ancestors.len())?;
+        match Arc::new(alloc, rising_slots(ancestors)) {
+            Ok(ancestors) => Ok(View {
+                ancestors,
+                max_root,
+            }),
+            Err(_) => Err(ViewFault::NoMemory),
         }
-        let ancestors = rising_slots(alloc, ancestors)?;
-        Ok(View {
-            ancestors,
-            max_root,
-        })
     }
 
     /// The slots of the reader's own fork, rising and each once.
@@ -99,11 +134,11 @@ impl View {
         self.max_root
     }
 
-    /// An equal view.
-    pub fn try_copy(&self, alloc: Global) -> Result<View, AllocError>
+    /// An equal view, which shares the list of ancestors.
+    pub fn try_copy(&self, _alloc: Global) -> Result<View, AllocError>
         ensures { IfOk result (λ view. view ≡ self.now) }
     {
-        let ancestors = self.ancestors.to_vec(alloc)?;
+        let ancestors = self.ancestors.clone()?;
         Ok(View {
             ancestors,
             max_root: self.max_root,

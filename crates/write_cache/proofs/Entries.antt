@@ -17,9 +17,10 @@ use Rattle.std.proofs.lemmas.List.Sums.{sum_by-cons}
 use Rattle.indexmap.specs.IndexMap.{IndexMap, insert_entry}
 use Rattle.adb_model.specs.Account.{Account}
 use Rattle.adb_model.specs.State.{Row}
+use Rattle.adb_model.specs.Cache.{put_row}
 use Rattle.adb_model.specs.declared.key.Key.{Key}
 use Rattle.write_cache.specs.Inside.{row_of, rows_of, seen, AreFilled}
-use Rattle.write_cache.specs.Rows.{rows, total, account_at, put_row, IsWith}
+use Rattle.write_cache.specs.Rows.{rows, total, account_at, IsWith}
 
 -- the keys' own test
 abbrev same_key : Key → Key → Bool

@@ -1,5 +1,5 @@
 -- What contracts see of a cache: of each slot that has some, its rows, in the order in which their keys were first stored.
-use Rattle.std.specs.Prelude.{◌≡◌, ℕ, ◌≤◌, ◌<◌, ◌==◌, if◌then◌else◌, List, [], ◌∷◌, length, Option, Some, None, option_map, unwrap_or, find, sum_by}
+use Rattle.std.specs.Prelude.{◌≡◌, ℕ, ◌≤◌, ◌<◌, ◌==◌, if◌then◌else◌, List, [], length, Option, Some, None, option_map, unwrap_or, find, sum_by}
 use Rattle.std.specs.Map.{lookup, values_of}
 use Rattle.std.specs.Str.{bytes_eq}
 use Rattle.adb_model.specs.Account.{Account}
@@ -20,13 +20,6 @@ total cache = sum_by length (values_of cache)
 -- the account of a key
 abbrev pub account_at : List Row → List ℕ → Option Account
 account_at rows key = option_map (λ r. r.account) (find (λ r. bytes_eq r.key key) rows)
-
--- the rows with the key's account, at its place or at the end
-abbrev pub put_row : List Row → List ℕ → Account → List Row
-put_row [] key account = record { key = key; account = account } ∷ []
-put_row (r ∷ rows) key account =
-    if bytes_eq r.key key then record { key = key; account = account } ∷ rows
-    else r ∷ put_row rows key account
 
 -- new has these rows in the slot, and in every other what old has
 abbrev pub IsWith : Cache → Cache → ℕ → List Row → Type 0

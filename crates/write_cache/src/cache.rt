@@ -1,6 +1,7 @@
 ghost use Rattle.std.specs.Prelude.{◌≡◌, ◌+◌, ◌-◌, ◌^◌, if◌then◌else◌, [], length, option_map, option_copied, slice_get, None, OnOk, OnErr, IsOk, IsErr, IsSome, is_some};
+ghost use Rattle.adb_model.specs.Cache.{put_row};
 ghost use Rattle.write_cache.specs.Inside.{borrowed_row};
-ghost use Rattle.write_cache.specs.Rows.{rows, total, account_at, put_row, IsWith, IsNextSlot};
+ghost use Rattle.write_cache.specs.Rows.{rows, total, account_at, IsWith, IsNextSlot};
 
 use crate::slots::{Slots, drop_rows, has_row, next_from, put_in, row_at};
 use adb_model::{Account, Key, Slot};

@@ -1,6 +1,7 @@
 ghost use Rattle.std.specs.Prelude.{◌≡◌, ◌+◌, ◌≤◌, if◌then◌else◌, [], ◌∷◌, length, not, option_map, slice_get, OnOk, OnErr, IfOk, IsOk, IsSome, is_some};
+ghost use Rattle.adb_model.specs.Cache.{put_row};
 ghost use Rattle.write_cache.specs.Inside.{borrowed_row, rows_of, seen, AreFilled};
-ghost use Rattle.write_cache.specs.Rows.{rows, total, account_at, put_row, IsWith, IsNextSlot};
+ghost use Rattle.write_cache.specs.Rows.{rows, total, account_at, IsWith, IsNextSlot};
 
 use adb_model::{Account, Key, Slot};
 use indexmap::IndexMap;

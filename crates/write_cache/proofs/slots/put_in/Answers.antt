@@ -8,8 +8,9 @@ use Rattle.std.proofs.lemmas.Bool.{false≢true}
 use Rattle.std.proofs.lemmas.Result.{on_ok_weaker, on_err_weaker, IfOk-weaker}
 use Rattle.std.proofs.lemmas.Map.Views.{All-values-set_value, All-values-insert_entry}
 use Rattle.adb_model.specs.State.{Row}
+use Rattle.adb_model.specs.Cache.{put_row}
 use Rattle.write_cache.specs.Inside.{seen}
-use Rattle.write_cache.specs.Rows.{total, account_at, put_row, IsWith}
+use Rattle.write_cache.specs.Rows.{total, account_at, IsWith}
 use Rattle.write_cache.proofs.Entries.{rows_some, rows_none, IsWith-updates, total-set_value, total-insert_entry, seen-set_value, filled_there, length-rows_of}
 use Rattle.write_cache.proofs.slots.put_in.Goals as goal
 
