@@ -1,28 +1,37 @@
 -- The reader of scripts against the grammar, both ways.
-use Rattle.std.proofs.Common.{◌≡◌, ℕ, ◌+◌, Bool, true, false, cond, eqb, List, [], ◌∷◌, Option, Some, None, Result, Ok, Err, refl, sym, ap, subst, ◌∙◌, inl, inr}
-use Rattle.std.specs.Prelude.{codes, filter, map, not, replicate, ◌⊎◌}
+use Rattle.std.proofs.Common.{◌≡◌, ℕ, ◌+◌, ◌≤◌, Bool, true, false, cond, leb, List, [], ◌∷◌, length, Option, Some, None, Result, Ok, Err, refl, sym, ap, ap₂, subst, ◌∙◌, inl, inr, arith}
+use Rattle.std.specs.Prelude.{codes, filter, map, not, replicate, ◌&&◌, option_and_then}
 use Rattle.std.specs.Str.{bytes_eq}
 use Rattle.std.specs.Str.Lines.{lines}
-use Rattle.std.proofs.lemmas.Bool.{eqb-true}
+use Rattle.std.proofs.lemmas.Bool.{and_from, and_parts, cond-true, le-leb, leb-true}
 use Rattle.std.proofs.lemmas.Slice.Eq.{bytes_eq-Decides}
-use Rattle.adb_model.specs.Account.{account_of}
+use Rattle.adb_model.specs.Account.{Account, account_of}
 use Rattle.adb_model.specs.View.{View}
-use Rattle.adb_model.specs.Call.{Store, Root, Load}
+use Rattle.adb_model.specs.Call.{Store, Root, Purge, Load, Stats}
 use Rattle.adb_model.specs.Plays.{Order, Plain, Get, Line}
+use Rattle.hex.proofs.OnLiterals.{hex_on_literals}
 use Rattle.text_fields.specs.Keys.{key_of}
 use Rattle.text_fields.specs.Numbers.{number_of}
 use Rattle.script.specs.declared.fault.Kind.{Kind}
 use Rattle.script.specs.declared.fault.Kind.TheVariants as kinds
 use Rattle.script.specs.declared.fault.WordFault.{WordFault}
 use Rattle.script.specs.declared.fault.LineFault.{LineFault}
-use Rattle.script.specs.Arguments.{view_of}
-use Rattle.script.specs.Grammar.{IsOrder, IsLine, AreLines, IsScript}
-use Rattle.script.specs.Reader.{◌>>=◌, good, argument, ended, lane_of, only_one, store_of, root_of, get_of, order_of, line_of, said_by, and_then, lines_from, script_of}
+use Rattle.script.specs.Arguments.{view_of, flag_of, data_of}
+use Rattle.script.specs.Data.{IsData}
+use Rattle.script.specs.Grammar.{filled, store_defaults, IsStore, IsOfSlot, IsOfView, IsOrder, IsLine, AreLines, IsScript}
+use Rattle.script.specs.Reader.{◌>>=◌, good, argument, optional, fitting, ended, if_lane, lane_of, data_argument, store_of, slot_of, view_and_key_of, order_of, line_of, said_by, and_then, lines_from, script_of}
 use Rattle.script.specs.Laws.{ReadsTheGrammar}
+use Rattle.script.specs.Text.{flag_text}
+use Rattle.script.specs.Views.{IsView}
 use Rattle.script.specs.Words.{words, is_skipped}
+use Rattle.script.proofs.DataGrammar.{data_read, data_again}
+use Rattle.script.proofs.Separated.{chosen}
 use Rattle.script.proofs.ViewGrammar.{view_read, view_again}
 
 -- ---- the reader's steps
+
+value_same : {A : Type 0} (x y : A) (r : Result A WordFault) → r ≡ Ok x → r ≡ Ok y → x ≡ y
+value_same x y r e f = cc
 
 bind_ok : {A B : Type 0} (r : Result A WordFault) (f : A → Result B WordFault) (y : B) → (r >>= f) ≡ Ok y → (x : A) × (r ≡ Ok x) × (f x ≡ Ok y)
 bind_ok (Ok x) f y e = (x, refl, e)
@@ -39,114 +48,266 @@ unfolding argument
 argument_ok read kind word [] x e = absurd cc
 argument_ok read kind word (w ∷ ws) x e = let p = good_ok word kind ws (read w) x e in (w, ap (λ (l : List (List ℕ)). w ∷ l) p.1, p.0)
 
-ended_ok : {A : Type 0} (word : ℕ) (ws : List (List ℕ)) (x y : A) → ended word ws x ≡ Ok y → (ws ≡ []) × (x ≡ y)
-ended_ok word [] x y e = (refl, cc)
-ended_ok word (w ∷ ws) x y e = absurd cc
+-- ---- words
 
--- ---- orders
+-- the first word, what it was read as, the words after it, and the next step
+step : {A B : Type 0} (read : List ℕ → Option A) (kind : Kind) (word : ℕ) (ws : List (List ℕ)) (f : A × List (List ℕ) → Result B WordFault) (y : B) → (argument read kind word ws >>= f) ≡ Ok y
+    → (w : List ℕ) × (x : A) × (rest : List (List ℕ)) × (ws ≡ w ∷ rest) × (read w ≡ Some x) × (f (x, rest) ≡ Ok y)
+step read kind word ws f y e =
+    let b = bind_ok (argument read kind word ws) f y e in
+    let a = argument_ok read kind word ws b.0 b.1 in
+    (a.0, b.0.0, b.0.1, a.1, a.2, b.2)
 
-root_read : (w : List ℕ) (ws : List (List ℕ)) (o : Order) → w ≡ codes "root" → root_of ws ≡ Ok o → IsOrder (w ∷ ws) o
-unfolding root_of
-root_read w ws o is e =
-    let a = bind_ok (argument number_of kinds.Number 3 ws) (λ slot. ended 4 slot.1 (Plain (Root slot.0))) o e in
-    let s = argument_ok number_of kinds.Number 3 ws a.0 a.1 in
-    let z = ended_ok 4 a.0.1 (Plain (Root a.0.0)) o a.2 in
-    let words : w ∷ ws ≡ codes "root" ∷ s.0 ∷ [] = ap (λ (x : List ℕ). x ∷ ws) is ∙ ap (λ (l : List (List ℕ)). codes "root" ∷ l) (s.1 ∙ ap (λ (l : List (List ℕ)). s.0 ∷ l) z.0) in
-    subst (λ (x : Order). IsOrder (w ∷ ws) x) z.1 (record { slot_word = s.0; words = words; slot_is = s.2 })
-
-root_again : (s : List ℕ) (n : ℕ) → number_of s ≡ Some n → root_of (s ∷ []) ≡ Ok (Plain (Root n))
-unfolding root_of argument
-root_again s n e = rw e refl
-
-get_read : (w : List ℕ) (ws : List (List ℕ)) (o : Order) → w ≡ codes "get" → get_of ws ≡ Ok o → IsOrder (w ∷ ws) o
-unfolding get_of
-get_read w ws o is e =
-    let a = bind_ok (argument view_of kinds.View 3 ws) (λ view. argument key_of kinds.Key 4 view.1 >>= λ key. ended 5 key.1 (Get view.0 key.0)) o e in
-    let b = bind_ok (argument key_of kinds.Key 4 a.0.1) (λ key. ended 5 key.1 (Get a.0.0 key.0)) o a.2 in
-    let v = argument_ok view_of kinds.View 3 ws a.0 a.1 in
-    let k = argument_ok key_of kinds.Key 4 a.0.1 b.0 b.1 in
-    let z = ended_ok 5 b.0.1 (Get a.0.0 b.0.0) o b.2 in
-    let words : w ∷ ws ≡ codes "get" ∷ v.0 ∷ k.0 ∷ [] =
-    ap (λ (x : List ℕ). x ∷ ws) is ∙ ap (λ (l : List (List ℕ)). codes "get" ∷ l) (v.1 ∙ ap (λ (l : List (List ℕ)). v.0 ∷ l) (k.1 ∙ ap (λ (l : List (List ℕ)). k.0 ∷ l) z.0)) in
-    subst (λ (x : Order). IsOrder (w ∷ ws) x) z.1 (record { view_word = v.0; key_word = k.0; words = words; view_is = view_read v.0 a.0.0 v.2; key_is = k.2 })
-
-get_again : (v k : List ℕ) (view : View) (key : List ℕ) → view_of v ≡ Some view → key_of k ≡ Some key → get_of (v ∷ k ∷ []) ≡ Ok (Get view key)
-unfolding get_of argument
-get_again v k view key e f = rw (e, f) refl
-
-store_read : (w : List ℕ) (ws : List (List ℕ)) (o : Order) → w ≡ codes "store" → store_of ws ≡ Ok o → IsOrder (w ∷ ws) o
-unfolding store_of
-store_read w ws o is e =
-    let last = λ (slot : ℕ) (key : List ℕ) (lamports : ℕ × List (List ℕ)). ended 6 lamports.1 (Plain (Store slot key (account_of lamports.0 (replicate 32 0) false 0 []))) in
-    let a = bind_ok (argument number_of kinds.Number 3 ws) (λ slot. argument key_of kinds.Key 4 slot.1 >>= λ key. argument number_of kinds.Number 5 key.1 >>= λ n. last slot.0 key.0 n) o e in
-    let b = bind_ok (argument key_of kinds.Key 4 a.0.1) (λ key. argument number_of kinds.Number 5 key.1 >>= λ n. last a.0.0 key.0 n) o a.2 in
-    let d = bind_ok (argument number_of kinds.Number 5 b.0.1) (λ n. last a.0.0 b.0.0 n) o b.2 in
-    let s = argument_ok number_of kinds.Number 3 ws a.0 a.1 in
-    let k = argument_ok key_of kinds.Key 4 a.0.1 b.0 b.1 in
-    let l = argument_ok number_of kinds.Number 5 b.0.1 d.0 d.1 in
-    let z = ended_ok 6 d.0.1 (Plain (Store a.0.0 b.0.0 (account_of d.0.0 (replicate 32 0) false 0 []))) o d.2 in
-    let words : w ∷ ws ≡ codes "store" ∷ s.0 ∷ k.0 ∷ l.0 ∷ [] =
-    ap (λ (x : List ℕ). x ∷ ws) is
-    ∙ ap (λ (t : List (List ℕ)). codes "store" ∷ t) (s.1 ∙ ap (λ (t : List (List ℕ)). s.0 ∷ t) (k.1 ∙ ap (λ (t : List (List ℕ)). k.0 ∷ t) (l.1 ∙ ap (λ (t : List (List ℕ)). l.0 ∷ t) z.0))) in
-    subst (λ (x : Order). IsOrder (w ∷ ws) x) z.1 (record {
-      slot_word = s.0;
-      key_word = k.0;
-      lamports_word = l.0;
-      lamports = d.0.0;
-      words = words;
-      slot_is = s.2;
-      key_is = k.2;
-      lamports_is = l.2;
-      account_is = refl;
-    })
-
-store_again : (s k l : List ℕ) (slot : ℕ) (key : List ℕ) (lamports : ℕ) → number_of s ≡ Some slot → key_of k ≡ Some key → number_of l ≡ Some lamports
-    → store_of (s ∷ k ∷ l ∷ []) ≡ Ok (Plain (Store slot key (account_of lamports (replicate 32 0) false 0 [])))
-unfolding store_of argument
-store_again s k l slot key lamports e f g = rw (e, f, g) refl
+-- no word was left
+at_end : {B : Type 0} (word : ℕ) (ws : List (List ℕ)) (f : Unit {0} → Result B WordFault) (y : B) → (ended word ws >>= f) ≡ Ok y → (ws ≡ []) × (f tt ≡ Ok y)
+unfolding ended
+at_end word [] f y e = (refl, e)
+at_end word (w ∷ ws) f y e = absurd cc
 
 is_text : (w c : List ℕ) → bytes_eq w c ≡ true → w ≡ c
 is_text w c e = (bytes_eq-Decides w c).0 e
 
--- which way a test went
-chosen : {A : Type 0} (b : Bool) (x y z : A) → cond b x y ≡ z → ((b ≡ true) × (x ≡ z)) ⊎ ((b ≡ false) × (y ≡ z))
-chosen true x y z e = inl (refl, e)
-chosen false x y z e = inr (refl, e)
+-- ---- words that may be left out
+
+-- a word that has such a meaning was read, or the default stands for it
+further : {A B : Type 0} (P : List ℕ → A → Type 0) (d : List ℕ) (default : A) (read : List (List ℕ) → Result (A × List (List ℕ)) WordFault) → P d default
+    → ((w : List ℕ) (ws : List (List ℕ)) (x : A × List (List ℕ)) → read (w ∷ ws) ≡ Ok x → P w x.0 × (ws ≡ x.1))
+    → (ws : List (List ℕ)) (f : A × List (List ℕ) → Result B WordFault) (y : B) → (optional default read ws >>= f) ≡ Ok y
+    → (w : List ℕ) × (x : A) × (rest : List (List ℕ)) × P w x × ((ds : List (List ℕ)) → filled (d ∷ ds) ws ≡ w ∷ filled ds rest) × (f (x, rest) ≡ Ok y)
+further P d default read holds means [] f y e = (d, default, [], holds, λ ds. refl, e)
+further P d default read holds means (w ∷ ws) f y e =
+    let b = bind_ok (read (w ∷ ws)) f y e in
+    let m = means w ws b.0 b.1 in
+    (w, b.0.0, b.0.1, m.0, λ ds. ap (λ (r : List (List ℕ)). w ∷ filled ds r) m.1, b.2)
+
+further_again : {A : Type 0} (d w : List ℕ) (default x : A) (read : List (List ℕ) → Result (A × List (List ℕ)) WordFault)
+    → ((rest : List (List ℕ)) → read (d ∷ rest) ≡ Ok (default, rest)) → ((rest : List (List ℕ)) → read (w ∷ rest) ≡ Ok (x, rest))
+    → (ws ds more : List (List ℕ)) → filled (d ∷ ds) ws ≡ w ∷ more → (rest : List (List ℕ)) × (optional default read ws ≡ Ok (x, rest)) × (filled ds rest ≡ more)
+further_again d w default x read left_out said [] ds more e =
+    let first : d ≡ w = cc in
+    let rest : ds ≡ more = cc in
+    ([], sym (left_out []) ∙ ap (λ (v : List ℕ). read (v ∷ [])) first ∙ said [], rest)
+further_again d w default x read left_out said (v ∷ ws) ds more e =
+    let first : v ≡ w = cc in
+    let rest : filled ds ws ≡ more = cc in
+    (ws, ap (λ (u : List ℕ). read (u ∷ ws)) first ∙ said ws, rest)
+
+none_left : (ws : List (List ℕ)) → filled [] ws ≡ [] → ws ≡ []
+none_left [] e = refl
+none_left (w ∷ ws) e = absurd cc
+
+argument_first : {A : Type 0} (read : List ℕ → Option A) (kind : Kind) (word : ℕ) (w : List ℕ) (ws : List (List ℕ)) (x : A × List (List ℕ)) → argument read kind word (w ∷ ws) ≡ Ok x → (read w ≡ Some x.0) × (ws ≡ x.1)
+unfolding argument
+argument_first read kind word w ws x e = good_ok word kind ws (read w) x e
+
+argument_again : {A : Type 0} (read : List ℕ → Option A) (kind : Kind) (word : ℕ) (w : List ℕ) (x : A) → read w ≡ Some x → (rest : List (List ℕ)) → argument read kind word (w ∷ rest) ≡ Ok (x, rest)
+unfolding argument
+argument_again read kind word w x e rest = rw e refl
+
+flag_read : (w : List ℕ) (b : Bool) → flag_of w ≡ Some b → w ≡ flag_text b
+unfolding flag_of
+flag_read w b e = elim (chosen (bytes_eq w (codes "0")) (Some false) _ (Some b) e) [
+  | inl t ↦ let same : false ≡ b = cc t.1 in is_text w (codes "0") t.0 ∙ ap flag_text same
+  | inr t ↦ elim (chosen (bytes_eq w (codes "1")) (Some true) None (Some b) t.1) [
+    | inl u ↦ let same : true ≡ b = cc u.1 in is_text w (codes "1") u.0 ∙ ap flag_text same
+    | inr u ↦ absurd (cc u.1)
+  ]
+]
+
+flag_again : (b : Bool) → flag_of (flag_text b) ≡ Some b
+unfolding flag_of
+flag_again true = refl
+flag_again false = refl
+
+data_first : (w : List ℕ) (ws : List (List ℕ)) (x : List ℕ × List (List ℕ)) → data_argument 9 (w ∷ ws) ≡ Ok x → IsData w x.0 × (ws ≡ x.1)
+unfolding data_argument
+data_first w ws x e =
+    let b = bind_ok (argument data_of kinds.Data 9 (w ∷ ws)) (fitting 9) x e in
+    let a = argument_first data_of kinds.Data 9 w ws b.0 b.1 in
+    elim (chosen (leb (length b.0.0) 10485760) (Ok b.0) _ (Ok x) b.2) [
+      | inl t ↦
+          let same : b.0 ≡ x = cc t.1 in
+          let whole : IsData w b.0.0 × (ws ≡ b.0.1) = (data_read w b.0.0 a.0 (leb-true (length b.0.0) 10485760 t.0), a.1) in
+          subst (λ (v : List ℕ × List (List ℕ)). IsData w v.0 × (ws ≡ v.1)) same whole
+      | inr t ↦ absurd (cc t.1)
+    ]
+
+fits_again : (bytes : List ℕ) (rest : List (List ℕ)) → length bytes ≤ 10485760 → fitting 9 (bytes, rest) ≡ Ok (bytes, rest)
+fits_again bytes rest most = cond-true (leb (length bytes) 10485760) (Ok (bytes, rest)) _ (le-leb (length bytes) 10485760 most)
+
+data_word_again : (w bytes : List ℕ) → IsData w bytes → (rest : List (List ℕ)) → data_argument 9 (w ∷ rest) ≡ Ok (bytes, rest)
+unfolding data_argument
+data_word_again w bytes h rest = ap (λ (r : Result (List ℕ × List (List ℕ)) WordFault). r >>= fitting 9) (argument_again data_of kinds.Data 9 w bytes (data_again w bytes h) rest) ∙ fits_again bytes rest h.most
+
+-- ---- defaults
+
+no_owner : key_of (codes "00") ≡ Some (replicate 32 0)
+unfolding key_of hex_on_literals
+no_owner = refl
+
+no_epoch : number_of (codes "0") ≡ Some 0
+unfolding number_of
+no_epoch = refl
+
+no_data : IsData (codes "-") []
+no_data = record { form = inl (refl, refl); most = omega arith }
+
+-- ---- orders
+
+slot_read : (ws : List (List ℕ)) (n : ℕ) → slot_of ws ≡ Ok n → (w : List ℕ) × (ws ≡ w ∷ []) × (number_of w ≡ Some n)
+unfolding slot_of
+slot_read ws n e =
+    let slot = step _ _ _ ws _ n e in
+    let done = at_end _ slot.2 _ n slot.5 in
+    let same : slot.1 ≡ n = cc done.1 in
+    (slot.0, slot.3 ∙ ap (λ (l : List (List ℕ)). slot.0 ∷ l) done.0, slot.4 ∙ ap (λ (m : ℕ). Some m) same)
+
+slot_again : (w : List ℕ) (n : ℕ) → number_of w ≡ Some n → slot_of (w ∷ []) ≡ Ok n
+unfolding slot_of argument ended
+slot_again w n e = rw e refl
+
+-- an order of one slot
+slot_order : (command : List ℕ) (order : ℕ → Order) (w : List ℕ) (ws : List (List ℕ)) (o : Order) → ((n : ℕ) → IsOfSlot command (w ∷ ws) n → IsOrder (w ∷ ws) (order n))
+    → w ≡ command → (slot_of ws >>= λ n. Ok (order n)) ≡ Ok o → IsOrder (w ∷ ws) o
+slot_order command order w ws o holds is e =
+    let b = bind_ok (slot_of ws) (λ n. Ok (order n)) o e in
+    let s = slot_read ws b.0 b.1 in
+    let same : order b.0 ≡ o = cc b.2 in
+    subst (λ (x : Order). IsOrder (w ∷ ws) x) same (holds b.0 (record { slot_word = s.0; words = ap₂ (λ (v : List ℕ) (r : List (List ℕ)). v ∷ r) is s.1; slot_is = s.2 }))
+
+view_and_key_read : (ws : List (List ℕ)) (x : View × List ℕ) → view_and_key_of ws ≡ Ok x → (v k : List ℕ) × (ws ≡ v ∷ k ∷ []) × IsView v x.0 × (key_of k ≡ Some x.1)
+unfolding view_and_key_of
+view_and_key_read ws x e =
+    let view = step _ _ _ ws _ x e in
+    let key = step _ _ _ view.2 _ x view.5 in
+    let done = at_end _ key.2 _ x key.5 in
+    let same : (view.1, key.1) ≡ x = cc done.1 in
+    let words : ws ≡ view.0 ∷ key.0 ∷ [] = view.3 ∙ ap (λ (l : List (List ℕ)). view.0 ∷ l) (key.3 ∙ ap (λ (l : List (List ℕ)). key.0 ∷ l) done.0) in
+    let whole : IsView view.0 view.1 × (key_of key.0 ≡ Some key.1) = (view_read view.0 view.1 view.4, key.4) in
+    let moved = subst (λ (y : View × List ℕ). IsView view.0 y.0 × (key_of key.0 ≡ Some y.1)) same whole in
+    (view.0, key.0, words, moved.0, moved.1)
+
+view_and_key_again : (v k : List ℕ) (view : View) (key : List ℕ) → view_of v ≡ Some view → key_of k ≡ Some key → view_and_key_of (v ∷ k ∷ []) ≡ Ok (view, key)
+unfolding view_and_key_of argument ended
+view_and_key_again v k view key e f = rw (e, f) refl
+
+-- an order of a view and a key
+view_order : (command : List ℕ) (order : View → List ℕ → Order) (w : List ℕ) (ws : List (List ℕ)) (o : Order) → ((v : View) (k : List ℕ) → IsOfView command (w ∷ ws) v k → IsOrder (w ∷ ws) (order v k))
+    → w ≡ command → (view_and_key_of ws >>= λ x. Ok (order x.0 x.1)) ≡ Ok o → IsOrder (w ∷ ws) o
+view_order command order w ws o holds is e =
+    let b = bind_ok (view_and_key_of ws) (λ x. Ok (order x.0 x.1)) o e in
+    let s = view_and_key_read ws b.0 b.1 in
+    let same : order b.0.0 b.0.1 ≡ o = cc b.2 in
+    subst (λ (x : Order). IsOrder (w ∷ ws) x) same
+    (holds b.0.0 b.0.1 (record { view_word = s.0; key_word = s.1; words = ap₂ (λ (v : List ℕ) (r : List (List ℕ)). v ∷ r) is s.2; view_is = s.3; key_is = s.4 }))
+
+view_order_again : (command : List ℕ) (ws : List (List ℕ)) (view : View) (key : List ℕ) (h : IsOfView command ws view key) → view_and_key_of (h.view_word ∷ h.key_word ∷ []) ≡ Ok (view, key)
+view_order_again command ws view key h = view_and_key_again h.view_word h.key_word view key (view_again h.view_word view h.view_is) h.key_is
+
+store_read : (w : List ℕ) (ws : List (List ℕ)) (o : Order) → w ≡ codes "store" → store_of ws ≡ Ok o → IsOrder (w ∷ ws) o
+unfolding store_of
+store_read w ws o is e =
+    let slot = step _ _ _ ws _ o e in
+    let key = step _ _ _ slot.2 _ o slot.5 in
+    let lamports = step _ _ _ key.2 _ o key.5 in
+    let owner = further (λ v x. key_of v ≡ Some x) (codes "00") (replicate 32 0) (argument key_of kinds.Key 6) no_owner (argument_first key_of kinds.Key 6) lamports.2 _ o lamports.5 in
+    let executable = further (λ v x. v ≡ flag_text x) (codes "0") false (argument flag_of kinds.Range 7) refl (λ v r x h. let a = argument_first flag_of kinds.Range 7 v r x h in (flag_read v x.0 a.0, a.1)) owner.2 _ o owner.5 in
+    let epoch = further (λ v x. number_of v ≡ Some x) (codes "0") 0 (argument number_of kinds.Number 8) no_epoch (argument_first number_of kinds.Number 8) executable.2 _ o executable.5 in
+    let bytes = further (λ v x. IsData v x) (codes "-") [] (data_argument 9) no_data data_first epoch.2 _ o epoch.5 in
+    let done = at_end _ bytes.2 _ o bytes.5 in
+    let made : Order = Plain (Store slot.1 key.1 (account_of lamports.1 owner.1 executable.1 epoch.1 bytes.1)) in
+    let same = value_same made o (Ok made) refl done.1 in
+    let words : w ∷ ws ≡ codes "store" ∷ slot.0 ∷ key.0 ∷ lamports.0 ∷ lamports.2 =
+    ap₂ (λ (v : List ℕ) (r : List (List ℕ)). v ∷ r) is (slot.3 ∙ ap (λ (t : List (List ℕ)). slot.0 ∷ t) (key.3 ∙ ap (λ (t : List (List ℕ)). key.0 ∷ t) lamports.3)) in
+    let four : filled store_defaults lamports.2 ≡ owner.0 ∷ flag_text executable.1 ∷ epoch.0 ∷ bytes.0 ∷ [] =
+    owner.4 _ ∙ ap (λ (t : List (List ℕ)). owner.0 ∷ t) (executable.4 _
+    ∙ ap₂ (λ (v : List ℕ) (t : List (List ℕ)). v ∷ t) executable.3 (epoch.4 _ ∙ ap (λ (t : List (List ℕ)). epoch.0 ∷ t) (bytes.4 [] ∙ ap (λ (t : List (List ℕ)). bytes.0 ∷ filled [] t) done.0))) in
+    subst (λ (x : Order). IsOrder (w ∷ ws) x) same (record {
+      slot_word = slot.0;
+      key_word = key.0;
+      lamports_word = lamports.0;
+      further = lamports.2;
+      lamports = lamports.1;
+      owner = owner.1;
+      executable = executable.1;
+      rent_epoch = epoch.1;
+      bytes = bytes.1;
+      words = words;
+      slot_is = slot.4;
+      key_is = key.4;
+      lamports_is = lamports.4;
+      further_are = record { owner_word = owner.0; epoch_word = epoch.0; data_word = bytes.0; words = four; owner_is = owner.3; epoch_is = epoch.3; data_is = bytes.3 };
+      account_is = refl;
+    })
+
+store_again : (ws : List (List ℕ)) (slot : ℕ) (key : List ℕ) (account : Account) (h : IsStore ws slot key account)
+    → store_of (h.slot_word ∷ h.key_word ∷ h.lamports_word ∷ h.further) ≡ Ok (Plain (Store slot key account))
+unfolding store_of argument ended
+store_again ws slot key account h =
+    let f = h.further_are in
+    let owner = further_again (codes "00") f.owner_word (replicate 32 0) h.owner (argument key_of kinds.Key 6) (argument_again key_of kinds.Key 6 (codes "00") (replicate 32 0) no_owner)
+    (argument_again key_of kinds.Key 6 f.owner_word h.owner f.owner_is) h.further _ _ f.words in
+    let executable = further_again (codes "0") (flag_text h.executable) false h.executable (argument flag_of kinds.Range 7) (argument_again flag_of kinds.Range 7 (codes "0") false (flag_again false))
+    (argument_again flag_of kinds.Range 7 (flag_text h.executable) h.executable (flag_again h.executable)) owner.0 _ _ owner.2 in
+    let epoch = further_again (codes "0") f.epoch_word 0 h.rent_epoch (argument number_of kinds.Number 8) (argument_again number_of kinds.Number 8 (codes "0") 0 no_epoch)
+    (argument_again number_of kinds.Number 8 f.epoch_word h.rent_epoch f.epoch_is) executable.0 _ _ executable.2 in
+    let bytes = further_again (codes "-") f.data_word [] h.bytes (data_argument 9) (data_word_again (codes "-") [] no_data) (data_word_again f.data_word h.bytes f.data_is) epoch.0 [] [] epoch.2 in
+    rw (h.slot_is, h.key_is, h.lamports_is, owner.1, executable.1, epoch.1, bytes.1, none_left bytes.0 bytes.2) (ap (λ (a : Account). Ok (Plain (Store slot key a))) h.account_is)
+
+stats_read : (w : List ℕ) (ws : List (List ℕ)) (o : Order) → w ≡ codes "stats" → (ended 3 ws >>= λ done. Ok (Plain Stats)) ≡ Ok o → IsOrder (w ∷ ws) o
+stats_read w ws o is e =
+    let done = at_end 3 ws (λ x. Ok (Plain Stats)) o e in
+    let same : Plain Stats ≡ o = cc done.1 in
+    let words : w ∷ ws ≡ codes "stats" ∷ [] = ap₂ (λ (v : List ℕ) (r : List (List ℕ)). v ∷ r) is done.0 in
+    subst (λ (x : Order). IsOrder (w ∷ ws) x) same words
+
+stats_again : (ended 3 [] >>= λ done. Ok (Plain Stats)) ≡ Ok (Plain Stats)
+unfolding ended
+stats_again = refl
+
+-- what follows a command, if it is this one
+pick : {A P : Type 0} (w c : List ℕ) (this others : Result A WordFault) (x : Result A WordFault) → cond (bytes_eq w c) this others ≡ x → (w ≡ c → this ≡ x → P) → (others ≡ x → P) → P
+pick w c this others x e one more = elim (chosen (bytes_eq w c) this others x e) [
+  | inl t ↦ one (is_text w c t.0) t.1
+  | inr t ↦ more t.1
+]
 
 order_read : (ws : List (List ℕ)) (o : Order) → order_of ws ≡ Ok o → IsOrder ws o
 unfolding order_of
 order_read [] o e = absurd cc
-order_read (w ∷ ws) o e = elim (chosen (bytes_eq w (codes "store")) (store_of ws) _ (Ok o) e) [
-  | inl s ↦ store_read w ws o (is_text w (codes "store") s.0) s.1
-  | inr s ↦ elim (chosen (bytes_eq w (codes "root")) (root_of ws) _ (Ok o) s.1) [
-    | inl r ↦ root_read w ws o (is_text w (codes "root") r.0) r.1
-    | inr r ↦ elim (chosen (bytes_eq w (codes "get")) (get_of ws) _ (Ok o) r.1) [
-      | inl g ↦ get_read w ws o (is_text w (codes "get") g.0) g.1
-      | inr g ↦ absurd (cc g.1)
-    ]
-  ]
-]
+order_read (w ∷ ws) o e0 =
+    pick w (codes "store") _ _ _ e0 (store_read w ws o) (λ e1.
+    pick w (codes "get") _ _ _ e1 (view_order (codes "get") Get w ws o (λ v k h. h)) (λ e2.
+    pick w (codes "load") _ _ _ e2 (view_order (codes "load") (λ v k. Plain (Load v k)) w ws o (λ v k h. h)) (λ e3.
+    pick w (codes "root") _ _ _ e3 (slot_order (codes "root") (λ n. Plain (Root n)) w ws o (λ n h. h)) (λ e4.
+    pick w (codes "purge") _ _ _ e4 (slot_order (codes "purge") (λ n. Plain (Purge n)) w ws o (λ n h. h)) (λ e5.
+    pick w (codes "stats") _ _ _ e5 (stats_read w ws o) (λ e6.
+    absurd (cc e6)))))))
 
 order_again : (ws : List (List ℕ)) (o : Order) → IsOrder ws o → order_of ws ≡ Ok o
 unfolding order_of
-order_again ws (Plain (Store slot key account)) h =
-    ap order_of h.words ∙ store_again h.slot_word h.key_word h.lamports_word slot key h.lamports h.slot_is h.key_is h.lamports_is
-    ∙ ap (λ (a : _). Ok (Plain (Store slot key a))) h.account_is
-order_again ws (Plain (Root slot)) h = ap order_of h.words ∙ root_again h.slot_word slot h.slot_is
-order_again ws (Plain (Load view key)) h = absurd h
-order_again ws (Get view key) h = ap order_of h.words ∙ get_again h.view_word h.key_word view key (view_again h.view_word view h.view_is) h.key_is
+order_again ws (Plain (Store slot key account)) h = ap order_of h.words ∙ store_again ws slot key account h
+order_again ws (Plain (Root slot)) h = ap order_of h.words ∙ rw (slot_again h.slot_word slot h.slot_is) refl
+order_again ws (Plain (Purge slot)) h = ap order_of h.words ∙ rw (slot_again h.slot_word slot h.slot_is) refl
+order_again ws (Plain (Load view key)) h = ap order_of h.words ∙ rw (view_order_again (codes "load") ws view key h) refl
+order_again ws (Plain Stats) h = ap order_of h ∙ stats_again
+order_again ws (Get view key) h = ap order_of h.words ∙ rw (view_order_again (codes "get") ws view key h) refl
+order_again ws o h = absurd h
 
 -- ---- lines
 
-lane_ok : (o : Option ℕ) (n : ℕ) → only_one o ≡ Some n → (o ≡ Some n) × (n ≡ 1)
-lane_ok None n e = absurd cc
-lane_ok (Some m) n e = elim (chosen (eqb m 1) (Some m) None (Some n) e) [
-  | inl t ↦ let same : m ≡ n = cc t.1 in (ap (λ (k : ℕ). Some k) same, sym same ∙ eqb-true m 1 t.0)
+lane_read : (o : Option ℕ) (n : ℕ) → option_and_then if_lane o ≡ Some n → (o ≡ Some n) × (1 ≤ n) × (n ≤ 64)
+lane_read None n e = absurd cc
+lane_read (Some m) n e = elim (chosen (leb 1 m && leb m 64) (Some m) None (Some n) e) [
+  | inl t ↦
+      let same : m ≡ n = cc t.1 in
+      let p = and_parts (leb 1 m) (leb m 64) t.0 in
+      (ap (λ (k : ℕ). Some k) same, omega (arith, leb-true _ _ p.0), omega (arith, leb-true _ _ p.1))
   | inr t ↦ absurd (cc t.1)
 ]
 
-lane_again : (o : Option ℕ) (n : ℕ) → o ≡ Some n → n ≡ 1 → only_one o ≡ Some n
-lane_again o n e one = ap only_one e ∙ subst (λ (k : ℕ). only_one (Some k) ≡ Some k) (sym one) refl
+lane_again : (o : Option ℕ) (n : ℕ) → o ≡ Some n → 1 ≤ n → n ≤ 64 → option_and_then if_lane o ≡ Some n
+lane_again o n e least most = ap (option_and_then if_lane) e ∙ cond-true (leb 1 n && leb n 64) (Some n) None (and_from _ _ (le-leb 1 n least) (le-leb n 64 most))
 
 line_read : (ws : List (List ℕ)) (line : Line) → line_of ws ≡ Ok line → IsLine ws line
 unfolding line_of
@@ -154,16 +315,16 @@ line_read ws line e =
     let a = bind_ok (argument lane_of kinds.Lane 1 ws) (λ lane. order_of lane.1 >>= λ order. Ok (record { lane = lane.0; order = order })) line e in
     let b = bind_ok (order_of a.0.1) (λ order. Ok (record { lane = a.0.0; order = order })) line a.2 in
     let w = argument_ok lane_of kinds.Lane 1 ws a.0 a.1 in
-    let one = lane_ok (number_of w.0) a.0.0 w.2 in
+    let one = lane_read (number_of w.0) a.0.0 w.2 in
     let made : Line = record { lane = a.0.0; order = b.0 } in
     let same : made ≡ line = cc b.2 in
     subst (λ (x : Line). IsLine ws x) same
-    (record { lane_word = w.0; order_words = a.0.1; words = w.1; lane_is = one.0; lane_one = one.1; order = order_read a.0.1 b.0 b.1 })
+    (record { lane_word = w.0; order_words = a.0.1; words = w.1; lane_is = one.0; least = one.1; most = one.2; order = order_read a.0.1 b.0 b.1 })
 
 line_again : (ws : List (List ℕ)) (line : Line) → IsLine ws line → line_of ws ≡ Ok line
 unfolding line_of argument
 line_again ws line h =
-    let read : lane_of h.lane_word ≡ Some line.lane = lane_again (number_of h.lane_word) line.lane h.lane_is h.lane_one in
+    let read : lane_of h.lane_word ≡ Some line.lane = lane_again (number_of h.lane_word) line.lane h.lane_is h.least h.most in
     let order : order_of h.order_words ≡ Ok line.order = order_again h.order_words line.order h.order in
     ap line_of h.words ∙ rw (read, order) refl
 

@@ -1,5 +1,9 @@
+pub mod SearchLemmas
 pub mod ViewLemmas
 pub mod LineLemmas
 pub mod WordLemmas
+pub mod Separated
+pub mod DataLemmas
 pub mod ViewGrammar
+pub mod DataGrammar
 pub mod GrammarLemmas

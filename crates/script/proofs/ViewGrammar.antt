@@ -1,20 +1,17 @@
 -- The words of views: what is read of them against what they are, both ways.
-use Rattle.std.proofs.Common.{◌≡◌, ℕ, suc, ◌+◌, ◌-◌, ◌^◌, ◌<◌, ◌≤◌, Bool, true, false, cond, eqb, leb, List, [], ◌∷◌, ◌++◌, length, take, drop, get_or, Option, Some, None, refl, sym, ap, ap₂, subst, ◌∙◌, arith, inl, inr}
-use Rattle.std.specs.Prelude.{◌⊎◌, codes, map, not, option_map, option_and_then}
-use Rattle.std.specs.Char.{is_ascii_digit}
-use Rattle.std.specs.List.{AllByRecursion, list_all, slice_split, join_with_byte, position_or_len, before_first, after_first}
+use Rattle.std.proofs.Common.{◌≡◌, ℕ, ◌-◌, ◌^◌, ◌≤◌, Bool, true, false, cond, eqb, leb, List, [], ◌∷◌, ◌++◌, length, Option, Some, None, refl, sym, ap, subst, ◌∙◌, arith, inl, inr}
+use Rattle.std.specs.Prelude.{codes, map, option_map, option_and_then}
+use Rattle.std.specs.List.{slice_split, join_with_byte, before_first, after_first}
 use Rattle.std.specs.Str.{bytes_eq}
-use Rattle.std.specs.Str.Parse.{digits_value}
-use Rattle.std.proofs.lemmas.List.{drop_all}
-use Rattle.std.proofs.lemmas.Bool.{and_parts, cases_Bool, cases_lt, cond-true, cond-false, eqb-true, ne_eqb, leb-true, le-leb}
+use Rattle.std.proofs.lemmas.Bool.{cases_Bool, cond-true, cond-false, leb-true, le-leb}
 use Rattle.std.proofs.lemmas.List.Splits.{slice_split-cons_no, join_with_byte-slice_split, length-slice_split}
-use Rattle.std.proofs.lemmas.List.Sums.{split_at_first, passes_at_first}
 use Rattle.std.proofs.lemmas.Slice.Eq.{bytes_eq-Decides}
 use Rattle.adb_model.specs.View as machine
 use Rattle.adb_model.specs.View.{View}
-use Rattle.text_fields.specs.Numbers.{is_number, number_of}
+use Rattle.text_fields.specs.Numbers.{number_of}
 use Rattle.script.specs.Arguments.{numbers_of, ancestors_of, max_root_of, view_of}
 use Rattle.script.specs.Views.{AreAncestors, IsMaxRoot, IsView}
+use Rattle.script.proofs.Separated.{Lacks, IsNoDigit, no_digit, number_lacks, lacks_more, chosen, before_again, after_again, joined_again}
 
 -- ---- numbers
 
@@ -44,38 +41,6 @@ as_many (w ∷ ws) [] e = absurd cc
 as_many (w ∷ ws) (n ∷ ns) e = let rest : map number_of ws ≡ map Some ns = cc in omega (arith, as_many ws ns rest)
 
 -- ---- bytes that no number has
-
--- no byte of the list is this one
-abbrev Lacks : ℕ → List ℕ → Type 0
-Lacks c bs = AllByRecursion (λ b. eqb b c ≡ false) bs
-
--- this one is no digit
-abbrev IsNoDigit : ℕ → Type 0
-IsNoDigit c = (b : ℕ) → is_ascii_digit b ≡ true → eqb b c ≡ false
-
-digit_range : (b : ℕ) → is_ascii_digit b ≡ true → (48 ≤ b) × (b ≤ 57)
-digit_range b h = let p = and_parts (leb 48 b) (leb b 57) h in (leb-true _ _ p.0, leb-true _ _ p.1)
-
-no_digit : (c : ℕ) → (c < 48) ⊎ (57 < c) → IsNoDigit c
-no_digit c out b h = let r = digit_range b h in ne_eqb b c (λ same. elim out [ inl low ↦ omega arith | inr high ↦ omega arith ])
-
-digits_lack : (c : ℕ) → IsNoDigit c → (w : List ℕ) → list_all (λ b. is_ascii_digit b) w ≡ true → Lacks c w
-digits_lack c out [] h = tt
-digits_lack c out (b ∷ w) h = let p = and_parts (is_ascii_digit b) (list_all (λ x. is_ascii_digit x) w) h in (out b p.0, digits_lack c out w p.1)
-
-number_lacks : (c : ℕ) → IsNoDigit c → (w : List ℕ) (n : ℕ) → number_of w ≡ Some n → Lacks c w
-unfolding number_of
-number_lacks c out w n e = elim (cases_Bool (is_number w)) [
-  | inl good ↦
-      let some = and_parts _ _ good in
-      let most = and_parts _ _ some.1 in
-      digits_lack c out w (and_parts (list_all (λ b. is_ascii_digit b) w) _ most.1).0
-  | inr bad ↦ absurd (cc (cond-false (is_number w) (Some (digits_value 10 w)) None bad))
-]
-
-lacks_more : (c : ℕ) (xs ys : List ℕ) → Lacks c xs → Lacks c ys → Lacks c (xs ++ ys)
-lacks_more c [] ys h k = k
-lacks_more c (x ∷ xs) ys h k = (h.0, lacks_more c xs ys h.1 k)
 
 joined_lacks : (c : ℕ) → IsNoDigit c → eqb 44 c ≡ false → (ws : List (List ℕ)) (ns : List ℕ) → map number_of ws ≡ map Some ns → Lacks c (join_with_byte 44 ws)
 joined_lacks c out comma [] ns e = tt
@@ -107,11 +72,6 @@ split_joined (w ∷ v ∷ ws) (n ∷ m ∷ ns) e some =
     let rest : map number_of (v ∷ ws) ≡ map Some (m ∷ ns) = cc in
     split_part w (join_with_byte 44 (v ∷ ws)) (number_lacks 44 (no_digit 44 (inl (omega arith))) w n first)
     ∙ ap (λ (ps : List (List ℕ)). w ∷ ps) (split_joined (v ∷ ws) (m ∷ ns) rest (omega arith))
-
--- which way a test went
-chosen : {A : Type 0} (b : Bool) (x y z : A) → cond b x y ≡ z → ((b ≡ true) × (x ≡ z)) ⊎ ((b ≡ false) × (y ≡ z))
-chosen true x y z e = inl (refl, e)
-chosen false x y z e = inr (refl, e)
 
 ancestors_read : (w : List ℕ) (slots : List ℕ) → ancestors_of w ≡ Some slots → AreAncestors w slots
 unfolding ancestors_of
@@ -176,19 +136,6 @@ max_root_again w most (inr number) =
 abbrev at_sign : ℕ → Bool
 at_sign b = eqb b 64
 
--- where the `@` is
-at_front : (front back : List ℕ) → Lacks 64 front → position_or_len at_sign (front ++ 64 ∷ back) ≡ length front
-at_front [] back h = refl
-at_front (b ∷ front) back h = cond-true (not (eqb b 64)) (1 + position_or_len at_sign (front ++ 64 ∷ back)) 0 (ap not h.0) ∙ omega (arith, at_front front back h.1)
-
-front_again : (front rest : List ℕ) → take (length front) (front ++ rest) ≡ front
-front_again [] rest = refl
-front_again (b ∷ front) rest = ap (λ (l : List ℕ). b ∷ l) (front_again front rest)
-
-back_again : (front : List ℕ) (b : ℕ) (back : List ℕ) → drop (suc (length front)) (front ++ b ∷ back) ≡ back
-back_again [] b back = refl
-back_again (x ∷ front) b back = back_again front b back
-
 ancestors_lack : (front slots : List ℕ) → AreAncestors front slots → Lacks 64 front
 ancestors_lack front slots (inl dash) = subst (λ (x : List ℕ). Lacks 64 x) (sym dash.0) (refl, tt)
 ancestors_lack front slots (inr h) = subst (λ (x : List ℕ). Lacks 64 x) (sym h.joined) (joined_lacks 64 (no_digit 64 (inr (omega arith))) refl h.words slots h.numbers)
@@ -196,10 +143,9 @@ ancestors_lack front slots (inr h) = subst (λ (x : List ℕ). Lacks 64 x) (sym 
 pub view_again : (w : List ℕ) (view : View) → IsView w view → view_of w ≡ Some view
 unfolding view_of
 view_again w view h =
-    let at : position_or_len at_sign w ≡ length h.front = ap (position_or_len at_sign) h.joined ∙ at_front h.front h.back (ancestors_lack h.front h.slots h.ancestors) in
-    let front : before_first at_sign w ≡ h.front = ap₂ (λ (n : ℕ) (x : List ℕ). take n x) at h.joined ∙ front_again h.front (64 ∷ h.back) in
-    let past : position_or_len at_sign w + 1 ≡ suc (length h.front) = omega arith in
-    let back : after_first at_sign w ≡ h.back = ap₂ (λ (n : ℕ) (x : List ℕ). drop n x) past h.joined ∙ back_again h.front 64 h.back in
+    let lacks = ancestors_lack h.front h.slots h.ancestors in
+    let front : before_first at_sign w ≡ h.front = ap (before_first at_sign) h.joined ∙ before_again 64 h.front h.back lacks in
+    let back : after_first at_sign w ≡ h.back = ap (after_first at_sign) h.joined ∙ after_again 64 h.front h.back lacks in
     let slots : ancestors_of (before_first at_sign w) ≡ Some h.slots = ap ancestors_of front ∙ ancestors_again h.front h.slots h.ancestors in
     let most : max_root_of (after_first at_sign w) ≡ Some h.max_root = ap max_root_of back ∙ max_root_again h.back h.max_root h.root in
     rw (slots, most) (ap (λ (v : View). Some v) h.view_is)
@@ -219,20 +165,13 @@ pub view_read : (w : List ℕ) (view : View) → view_of w ≡ Some view → IsV
 unfolding view_of
 view_read w view e =
     let p = parts_read (ancestors_of (before_first at_sign w)) (max_root_of (after_first at_sign w)) view e in
-    elim (cases_lt (position_or_len at_sign w) (length w)) [
-      | inl lt ↦
-          let sign : get_or w (position_or_len at_sign w) 0 ≡ 64 = eqb-true _ _ (passes_at_first at_sign w 0 lt) in
-          record {
-            front = before_first at_sign w;
-            back = after_first at_sign w;
-            slots = p.0;
-            max_root = p.1;
-            joined = split_at_first at_sign w 0 lt ∙ ap (λ (b : ℕ). before_first at_sign w ++ b ∷ after_first at_sign w) sign;
-            ancestors = ancestors_read (before_first at_sign w) p.0 p.2;
-            root = max_root_read (after_first at_sign w) p.1 p.3;
-            view_is = p.4;
-          }
-      | inr ge ↦
-          let none : after_first at_sign w ≡ [] = drop_all (position_or_len at_sign w + 1) w (omega arith) in
-          absurd (no_max_root p.1 (ap max_root_of (sym none) ∙ p.3))
-    ]
+    record {
+      front = before_first at_sign w;
+      back = after_first at_sign w;
+      slots = p.0;
+      max_root = p.1;
+      joined = joined_again 64 w (λ none. no_max_root p.1 (ap max_root_of (sym none) ∙ p.3));
+      ancestors = ancestors_read (before_first at_sign w) p.0 p.2;
+      root = max_root_read (after_first at_sign w) p.1 p.3;
+      view_is = p.4;
+    }

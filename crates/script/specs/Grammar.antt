@@ -1,55 +1,85 @@
 -- Scripts, as relations on lines and words.
-use Rattle.std.specs.Prelude.{◌≡◌, ℕ, false, not, List, [], ◌∷◌, codes, filter, map, replicate, Some}
+use Rattle.std.specs.Prelude.{◌≡◌, ◌≤◌, ℕ, Bool, not, List, [], ◌∷◌, ◌++◌, length, drop, codes, filter, map, Some}
 use Rattle.std.specs.Str.Lines.{lines}
 use Rattle.adb_model.specs.Account.{Account, account_of}
-use Rattle.adb_model.specs.Call.{Store, Root, Load}
+use Rattle.adb_model.specs.Call.{Store, Root, Purge, Load, Stats}
 use Rattle.adb_model.specs.Plays.{Order, Plain, Get, Line}
 use Rattle.adb_model.specs.View.{View}
 use Rattle.text_fields.specs.Keys.{key_of}
 use Rattle.text_fields.specs.Numbers.{number_of}
+use Rattle.script.specs.Data.{IsData}
+use Rattle.script.specs.Text.{flag_text}
 use Rattle.script.specs.Views.{IsView}
 use Rattle.script.specs.Words.{words, is_skipped}
 
--- `store SLOT KEY LAMPORTS`: no data, owner zeros, not executable, rent epoch 0
+-- some words, and the last of these defaults for those that are left out
+abbrev pub filled : List (List ℕ) → List (List ℕ) → List (List ℕ)
+filled defaults ws = ws ++ drop (length ws) defaults
+
+-- owner, executable, rent epoch and data of a store that does not say them
+abbrev pub store_defaults : List (List ℕ)
+store_defaults = codes "00" ∷ codes "0" ∷ codes "0" ∷ codes "-" ∷ []
+
+-- the four words that say them
+pub record AreFurther (ws : List (List ℕ)) (owner : List ℕ) (executable : Bool) (rent_epoch : ℕ) (bytes : List ℕ) : Type 0 where
+  pub owner_word : List ℕ
+  pub epoch_word : List ℕ
+  pub data_word : List ℕ
+  pub words : ws ≡ owner_word ∷ flag_text executable ∷ epoch_word ∷ data_word ∷ []
+  pub owner_is : key_of owner_word ≡ Some owner
+  pub epoch_is : number_of epoch_word ≡ Some rent_epoch
+  pub data_is : IsData data_word bytes
+
+-- `store SLOT KEY LAMPORTS [OWNER [EXEC [EPOCH [DATA]]]]`
 pub record IsStore (ws : List (List ℕ)) (slot : ℕ) (key : List ℕ) (account : Account) : Type 0 where
   pub slot_word : List ℕ
   pub key_word : List ℕ
   pub lamports_word : List ℕ
+  pub further : List (List ℕ)
   pub lamports : ℕ
-  pub words : ws ≡ codes "store" ∷ slot_word ∷ key_word ∷ lamports_word ∷ []
+  pub owner : List ℕ
+  pub executable : Bool
+  pub rent_epoch : ℕ
+  pub bytes : List ℕ
+  pub words : ws ≡ codes "store" ∷ slot_word ∷ key_word ∷ lamports_word ∷ further
   pub slot_is : number_of slot_word ≡ Some slot
   pub key_is : key_of key_word ≡ Some key
   pub lamports_is : number_of lamports_word ≡ Some lamports
-  pub account_is : account_of lamports (replicate 32 0) false 0 [] ≡ account
+  pub further_are : AreFurther (filled store_defaults further) owner executable rent_epoch bytes
+  pub account_is : account_of lamports owner executable rent_epoch bytes ≡ account
 
--- `root SLOT`
-pub record IsRoot (ws : List (List ℕ)) (slot : ℕ) : Type 0 where
+-- a command and a slot
+pub record IsOfSlot (command : List ℕ) (ws : List (List ℕ)) (slot : ℕ) : Type 0 where
   pub slot_word : List ℕ
-  pub words : ws ≡ codes "root" ∷ slot_word ∷ []
+  pub words : ws ≡ command ∷ slot_word ∷ []
   pub slot_is : number_of slot_word ≡ Some slot
 
--- `get VIEW KEY`
-pub record IsGet (ws : List (List ℕ)) (view : View) (key : List ℕ) : Type 0 where
+-- a command, a view and a key
+pub record IsOfView (command : List ℕ) (ws : List (List ℕ)) (view : View) (key : List ℕ) : Type 0 where
   pub view_word : List ℕ
   pub key_word : List ℕ
-  pub words : ws ≡ codes "get" ∷ view_word ∷ key_word ∷ []
+  pub words : ws ≡ command ∷ view_word ∷ key_word ∷ []
   pub view_is : IsView view_word view
   pub key_is : key_of key_word ≡ Some key
 
 -- the words after the lane; nothing else is asked for yet
 abbrev pub IsOrder : List (List ℕ) → Order → Type 0
 IsOrder ws (Plain (Store slot key account)) = IsStore ws slot key account
-IsOrder ws (Plain (Root slot)) = IsRoot ws slot
-IsOrder ws (Plain (Load view key)) = ⊥
-IsOrder ws (Get view key) = IsGet ws view key
+IsOrder ws (Plain (Root slot)) = IsOfSlot (codes "root") ws slot
+IsOrder ws (Plain (Purge slot)) = IsOfSlot (codes "purge") ws slot
+IsOrder ws (Plain (Load view key)) = IsOfView (codes "load") ws view key
+IsOrder ws (Plain Stats) = ws ≡ codes "stats" ∷ []
+IsOrder ws (Get view key) = IsOfView (codes "get") ws view key
+IsOrder ws order = ⊥
 
--- the words of a line: lane 1, and what it is to do
+-- the words of a line: a lane from 1 to 64, and what it is to do
 pub record IsLine (ws : List (List ℕ)) (line : Line) : Type 0 where
   pub lane_word : List ℕ
   pub order_words : List (List ℕ)
   pub words : ws ≡ lane_word ∷ order_words
   pub lane_is : number_of lane_word ≡ Some line.lane
-  pub lane_one : line.lane ≡ 1
+  pub least : 1 ≤ line.lane
+  pub most : line.lane ≤ 64
   pub order : IsOrder order_words line.order
 
 -- each of them is that line

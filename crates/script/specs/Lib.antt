@@ -1,8 +1,9 @@
 pub mod Words
 pub mod Arguments
 pub mod Views
+pub mod Data
+pub mod Text
 pub mod Grammar
 pub mod Reader
-pub mod Text
 pub mod Seen
 pub mod Laws

@@ -1,9 +1,10 @@
 -- A script as it is read, from left to right: its lines, or the first bad word.
-use Rattle.std.specs.Prelude.{ℕ, ◌+◌, ◌==◌, false, if◌then◌else◌, List, [], ◌∷◌, codes, replicate, Option, Some, None, Result, Ok, Err}
+use Rattle.std.specs.Prelude.{ℕ, ◌+◌, nat_le, ◌&&◌, false, if◌then◌else◌, List, [], ◌∷◌, length, codes, replicate, Option, Some, None, option_and_then, Result, Ok, Err}
 use Rattle.std.specs.Str.{bytes_eq}
 use Rattle.std.specs.Str.Lines.{lines}
 use Rattle.adb_model.specs.Account.{account_of}
-use Rattle.adb_model.specs.Call.{Store, Root}
+use Rattle.adb_model.specs.Call.{Store, Root, Purge, Load, Stats}
+use Rattle.adb_model.specs.View.{View}
 use Rattle.adb_model.specs.Plays.{Order, Plain, Get, Line}
 use Rattle.text_fields.specs.Keys.{key_of}
 use Rattle.text_fields.specs.Numbers.{number_of}
@@ -11,7 +12,7 @@ use Rattle.script.specs.declared.fault.Kind.{Kind}
 use Rattle.script.specs.declared.fault.Kind.TheVariants as kinds
 use Rattle.script.specs.declared.fault.WordFault.{WordFault}
 use Rattle.script.specs.declared.fault.LineFault.{LineFault}
-use Rattle.script.specs.Arguments.{view_of}
+use Rattle.script.specs.Arguments.{view_of, flag_of, data_of}
 use Rattle.script.specs.Words.{words, is_skipped}
 
 -- the second step, where the first gave a value
@@ -33,43 +34,67 @@ unfoldable pub argument : {A : Type 0} → (List ℕ → Option A) → Kind → 
 argument read kind word [] = fault word kinds.Missing
 argument read kind word (w ∷ ws) = good word kind ws (read w)
 
--- no word is too many
-abbrev pub ended : {A : Type 0} → ℕ → List (List ℕ) → A → Result A WordFault
-ended word [] x = Ok x
-ended word (w ∷ ws) x = fault word kinds.Surplus
+-- the word at the front read so, or the default where no word is left
+abbrev pub optional : {A : Type 0} → A → (List (List ℕ) → Result (A × List (List ℕ)) WordFault) → List (List ℕ) → Result (A × List (List ℕ)) WordFault
+optional default read [] = Ok (default, [])
+optional default read (w ∷ ws) = read (w ∷ ws)
 
--- lane 1 alone
-abbrev pub only_one : Option ℕ → Option ℕ
-only_one None = None
-only_one (Some n) = if n == 1 then Some n else None
+-- no more bytes than an account can have
+abbrev pub fitting : {B : Type 0} → ℕ → List ℕ × B → Result (List ℕ × B) WordFault
+fitting word x = if nat_le (length x.0) 10485760 then Ok x else fault word kinds.DataTooLong
+
+-- no word is too many
+unfoldable pub ended : ℕ → List (List ℕ) → Result (Unit {0}) WordFault
+ended word [] = Ok tt
+ended word (w ∷ ws) = fault word kinds.Surplus
+
+-- lanes 1 to 64
+abbrev pub if_lane : ℕ → Option ℕ
+if_lane n = if nat_le 1 n && nat_le n 64 then Some n else None
 
 abbrev pub lane_of : List ℕ → Option ℕ
-lane_of w = only_one (number_of w)
+lane_of w = option_and_then if_lane (number_of w)
+
+-- the data of a store
+unfoldable pub data_argument : ℕ → List (List ℕ) → Result (List ℕ × List (List ℕ)) WordFault
+data_argument word ws = argument data_of kinds.Data word ws >>= fitting word
 
 unfoldable pub store_of : List (List ℕ) → Result Order WordFault
 store_of ws = do
   slot ← argument number_of kinds.Number 3 ws
   key ← argument key_of kinds.Key 4 slot.1
   lamports ← argument number_of kinds.Number 5 key.1
-  ended 6 lamports.1 (Plain (Store slot.0 key.0 (account_of lamports.0 (replicate 32 0) false 0 [])))
+  owner ← optional (replicate 32 0) (argument key_of kinds.Key 6) lamports.1
+  executable ← optional false (argument flag_of kinds.Range 7) owner.1
+  epoch ← optional 0 (argument number_of kinds.Number 8) executable.1
+  bytes ← optional [] (data_argument 9) epoch.1
+  done ← ended 10 bytes.1
+  Ok (Plain (Store slot.0 key.0 (account_of lamports.0 owner.0 executable.0 epoch.0 bytes.0)))
 
-unfoldable pub root_of : List (List ℕ) → Result Order WordFault
-root_of ws = do
+-- the slot of an order that has no more than that
+unfoldable pub slot_of : List (List ℕ) → Result ℕ WordFault
+slot_of ws = do
   slot ← argument number_of kinds.Number 3 ws
-  ended 4 slot.1 (Plain (Root slot.0))
+  done ← ended 4 slot.1
+  Ok slot.0
 
-unfoldable pub get_of : List (List ℕ) → Result Order WordFault
-get_of ws = do
+-- the view and the key of an order that has no more than that
+unfoldable pub view_and_key_of : List (List ℕ) → Result (View × List ℕ) WordFault
+view_and_key_of ws = do
   view ← argument view_of kinds.View 3 ws
   key ← argument key_of kinds.Key 4 view.1
-  ended 5 key.1 (Get view.0 key.0)
+  done ← ended 5 key.1
+  Ok (view.0, key.0)
 
 unfoldable pub order_of : List (List ℕ) → Result Order WordFault
 order_of [] = fault 2 kinds.Missing
 order_of (w ∷ ws) =
     if bytes_eq w (codes "store") then store_of ws
-    else if bytes_eq w (codes "root") then root_of ws
-    else if bytes_eq w (codes "get") then get_of ws
+    else if bytes_eq w (codes "get") then (view_and_key_of ws >>= λ x. Ok (Get x.0 x.1))
+    else if bytes_eq w (codes "load") then (view_and_key_of ws >>= λ x. Ok (Plain (Load x.0 x.1)))
+    else if bytes_eq w (codes "root") then (slot_of ws >>= λ slot. Ok (Plain (Root slot)))
+    else if bytes_eq w (codes "purge") then (slot_of ws >>= λ slot. Ok (Plain (Purge slot)))
+    else if bytes_eq w (codes "stats") then (ended 3 ws >>= λ done. Ok (Plain Stats))
     else fault 2 kinds.Unknown
 
 unfoldable pub line_of : List (List ℕ) → Result Line WordFault

@@ -23,6 +23,9 @@ pub enum Kind {
     Number,
     Key,
     View,
+    Range,
+    Data,
+    DataTooLong,
 }
 
 /// The first bad word of a line; words count from 1.
@@ -52,6 +55,13 @@ pub enum ReadError {
 pub enum LineError {
     Memory,
     Fault(LineFault),
+}
+
+/// The fault of the word that has this place in its line.
+pub fn fault(word: u32, kind: Kind) -> ReadError
+    ensures { result ≡ ReadError.Fault (record { word = word; kind = kind }) }
+{
+    ReadError::Fault(WordFault { word, kind })
 }
 
 impl From<AllocError> for ReadError {

@@ -5,10 +5,13 @@
 //! The text of an event is a line of the journal (`specs/Text.antt`), which is itself a line of a script.
 #![tactic(auto)]
 
+mod arguments;
+mod data_words;
 mod fault;
 mod laws;
 mod line;
 mod parsing;
+mod printed_view;
 mod reading;
 mod text;
 mod view_words;
@@ -18,7 +21,7 @@ pub use fault::ScriptFault;
 pub use laws::{ended_lines_are_read, reads_the_grammar, spaced_words_are_read};
 pub use line::{Line, Order, Script};
 pub use parsing::parse;
-pub use text::line_text;
+pub use text::{JournalPrinter, line_text};
 
 #[cfg(test)]
 mod tests;

@@ -10,14 +10,17 @@ ghost use Rattle.script.specs.Words.{words};
 use crate::fault::{LineError, LineFault, ReadError, ScriptFault};
 use crate::line::{Line, Script};
 use crate::reading::read_line;
+use crate::view_words::LastView;
 use crate::words::{begins_comment, split_word};
+use memchr::memchr;
 use std::alloc::Global;
 
 // The index of the first newline, or the length.
+#[tactic(auto, using(crate::proofs::SearchLemmas::place_or_len))]
 fn newline(bytes: &[u8]) -> usize
     ensures { result ≡ position_or_len (λ b. b == 10) bytes.now }
 {
-    bytes.iter().take_while(|byte| **byte != b'\n').count()
+    memchr(b'\n', bytes).unwrap_or(bytes.len())
 }
 
 fn without_return(line: &[u8]) -> &[u8]
@@ -45,7 +48,11 @@ fn next_line(bytes: &[u8]) -> (&[u8], &[u8])
 }
 
 // What a line says, if anything.
-fn said(alloc: Global, line: &[u8]) -> Result<Option<Line>, ReadError>
+fn said<'a>(
+    alloc: Global,
+    last: &mut LastView<'a>,
+    line: &'a [u8],
+) -> Result<Option<Line>, ReadError>
     ensures { Gives (λ o. option_map line_seen o) result (said_by (words line.now)) }
 {
     let Some((first, rest)) = split_word(line) else {
@@ -54,7 +61,7 @@ fn said(alloc: Global, line: &[u8]) -> Result<Option<Line>, ReadError>
     if begins_comment(first) {
         return Ok(None);
     }
-    Ok(Some(read_line(alloc, first, rest)?))
+    Ok(Some(read_line(alloc, last, first, rest)?))
 }
 
 fn at_line(line: u64, error: ReadError) -> LineError
@@ -70,17 +77,18 @@ fn at_line(line: u64, error: ReadError) -> LineError
     }
 }
 
-// What the bytes of a script say, or their first bad word.
+/// What the bytes of a script say, or their first bad word.
 #[tactic(auto, unfolding(crate::specs::Reader::script_of))]
-fn read_script(alloc: Global, bytes: &[u8]) -> Result<Script, LineError>
+pub fn read_script(alloc: Global, bytes: &[u8]) -> Result<Script, LineError>
     ensures { GivesScript result (script_of bytes.now) }
 {
     let mut lines = Vec::new(alloc);
+    let mut last = LastView::new();
     let mut rest = bytes;
     let mut number = 1;
     while !rest.is_empty() {
         let (line, after) = next_line(rest);
-        match said(alloc, line) {
+        match said(alloc, &mut last, line) {
             Ok(Some(line)) => lines.push(line)?,
             Ok(None) => {}
             Err(error) => return Err(at_line(number, error)),

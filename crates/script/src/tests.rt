@@ -1,11 +1,33 @@
 use super::*;
-use adb_model::{Account, Call, Key, Place, Refusal, Reply, View};
+use crate::fault::{Kind, LineError, LineFault};
+use crate::parsing::read_script;
+use adb_model::{Account, Call, Key, Place, Refusal, Reply, Stats, View};
 use std::alloc::Global;
 use std::sync::Arc;
 use std::test::Fail;
 
-// A script's lines as the journal has them where each store and root is done and each load finds nothing; none
-// where the bytes are no script.
+// What is answered to a call in these tests: a store or a root is done, a load finds nothing.
+fn reply_to(call: &Call) -> Reply {
+    match call {
+        Call::Store { .. } | Call::Root { .. } => Reply::Done,
+        Call::Purge { .. } => Reply::Purged { keys: 3 },
+        Call::Load { .. } => Reply::NotFound,
+        Call::Stats => Reply::Counted {
+            stats: Stats {
+                cached: 1,
+                filling: 2,
+                live: 3,
+                retired: 4,
+                named: 5,
+                rows: 6,
+                bytes: 7,
+                pins: u64::MAX,
+            },
+        },
+    }
+}
+
+// A script's lines as the journal has them, with these replies; none where the bytes are no script.
 fn journal(alloc: Global, bytes: &[u8]) -> Result<Option<String>, Fail> {
     let script = match parse(alloc, bytes) {
         Ok(script) => script,
@@ -13,13 +35,15 @@ fn journal(alloc: Global, bytes: &[u8]) -> Result<Option<String>, Fail> {
         Err(ScriptFault::NoMemory) => return Err(Fail::from("memory")),
     };
     let mut all = String::new(alloc);
+    let mut printer = JournalPrinter::new(alloc);
     for line in &script.lines {
         let text = match &line.order {
-            Order::Event(call) => line_text(alloc, line.lane, call, &Reply::Done)?,
+            Order::Event(call) => line_text(alloc, line.lane, call, &reply_to(call))?,
             Order::Get { view, key } => {
                 let view = view.try_copy(alloc)?;
                 let call = Call::Load { view, key: *key };
-                line_text(alloc, line.lane, &call, &Reply::NotFound)?
+                let text = printer.print(alloc, line.lane, &call, &reply_to(&call))?;
+                Vec::from_slice(alloc, text)?
             }
         };
         all.push_str(String::from_utf8(text)?.as_str())?;
@@ -33,8 +57,29 @@ fn scripts_say_these_lines(rt: HostRuntime) -> Result<(), Fail> {
     let rows = [
         ("", ""),
         ("\n\r\n \t \n# 2 purge\n  #\n= 1 root 5\n", ""),
+        (
+            "1 get 7,5@all 01\n1 get 7,5@all 02\n1 get 7,5@9 01\n1 get 5,7@all 03",
+            "1 load 5,7@all 01 = none\n1 load 5,7@all 02 = none\n1 load 5,7@9 01 = none\n1 load 5,7@all 03 = none\n",
+        ),
         ("1 store 5 01 100\n", "1 store 5 01 100 00 0 0 - = ok\n"),
         ("1 store 5 02 0", "1 store 5 02 0 00 0 0 - = ok\n"),
+        ("1 store 5 02 0 aa 1 9 ff", "1 store 5 02 0 00 0 0 - = ok\n"),
+        (
+            "1 store 5 02 7 AA00 1 03 AbCd = ok",
+            "1 store 5 02 7 aa 1 3 abcd = ok\n",
+        ),
+        (
+            "1 store 5 02 7 aa\n1 store 5 02 7 aa 1\n1 store 5 02 7 aa 1 3",
+            "1 store 5 02 7 aa 0 0 - = ok\n1 store 5 02 7 aa 1 0 - = ok\n1 store 5 02 7 aa 1 3 - = ok\n",
+        ),
+        (
+            "1 store 5 01 1 00 0 0 -\n1 store 5 01 1 00 0 0 00*ab\n1 store 5 01 1 00 0 0 01*AB",
+            "1 store 5 01 1 00 0 0 - = ok\n1 store 5 01 1 00 0 0 - = ok\n1 store 5 01 1 00 0 0 ab = ok\n",
+        ),
+        (
+            "1 store 5 01 1 00 0 0 33*ab\n1 store 5 01 1 00 0 0 10485760*00",
+            "1 store 5 01 1 00 0 0 33*ab = ok\n1 store 5 01 1 00 0 0 10485760*00 = ok\n",
+        ),
         (
             "\t1  root\t5 \r\n1 root 6",
             "1 root 5 = ok\n1 root 6 = ok\n",
@@ -48,7 +93,13 @@ fn scripts_say_these_lines(rt: HostRuntime) -> Result<(), Fail> {
             "1 root 18446744073709551615",
             "1 root 18446744073709551615 = ok\n",
         ),
+        ("2 purge 05", "2 purge 5 = ok 3\n"),
+        (
+            "064 stats",
+            "64 stats = cached 1 filling 2 live 3 retired 4 named 5 rows 6 bytes 7 pins 18446744073709551615\n",
+        ),
         ("1 get 7,05,7@all aB00", "1 load 5,7@all ab = none\n"),
+        ("1 load 7,05,7@6 aB00", "1 load 5,7@6 ab = none\n"),
         (
             "1 get -@18446744073709551615 00",
             "1 load -@all 00 = none\n",
@@ -68,41 +119,87 @@ fn scripts_say_these_lines(rt: HostRuntime) -> Result<(), Fail> {
 #[test]
 fn other_bytes_are_no_script(rt: HostRuntime) -> Result<(), Fail> {
     let alloc = rt.alloc();
-    for script in [
-        "2 root 5",
-        "0 root 5",
-        "x",
-        "1",
-        "1 purge 5",
-        "1 stor 5 01 1",
-        "1 Root 5",
-        "1 load -@all 01",
-        "1 root",
-        "1 root 5 6",
-        "1 root 5=",
-        "1 root +5",
-        "1 root 5\r",
-        "1 root 5\r\r\n",
-        "1 root 18446744073709551616",
-        "1 root 000000000000000000005",
-        "1 root \u{e9}",
-        "\u{e9}",
-        "1 root 5\n1 root 6\n1 root x",
-        "1 store 5 01",
-        "1 store 5 0 1",
-        "1 store 5 01 1 00",
-        "1 store 5 010 1",
-        "1 store 5 0g 1",
-        "1 store 5 000000000000000000000000000000000000000000000000000000000000000000 1",
-        "1 get 5 01",
-        "1 get @all 01",
-        "1 get 5,@all 01",
-        "1 get -,5@all 01",
-        "1 get 5@ 01",
-        "1 get 5@all@all 01",
-        "1 get 5@ALL 01",
-        "1 get 5@all",
+    for (script, line, word, kind) in [
+        ("0 root 5", 1, 1, Kind::Lane),
+        ("65 stats", 1, 1, Kind::Lane),
+        ("x", 1, 1, Kind::Lane),
+        ("\u{e9}", 1, 1, Kind::Lane),
+        ("1", 1, 2, Kind::Missing),
+        ("1 stor 5 01 1", 1, 2, Kind::Unknown),
+        ("1 Root 5", 1, 2, Kind::Unknown),
+        ("1 root", 1, 3, Kind::Missing),
+        ("1 root 5 6", 1, 4, Kind::Surplus),
+        ("1 root 5=", 1, 3, Kind::Number),
+        ("1 root +5", 1, 3, Kind::Number),
+        ("1 root 5\r", 1, 3, Kind::Number),
+        ("1 root 5\r\r\n", 1, 3, Kind::Number),
+        ("1 root 18446744073709551616", 1, 3, Kind::Number),
+        ("1 root 000000000000000000005", 1, 3, Kind::Number),
+        ("1 root \u{e9}", 1, 3, Kind::Number),
+        ("1 root 5\n#\n1 root 6\n\n1 root x\ny", 5, 3, Kind::Number),
+        ("1 purge", 1, 3, Kind::Missing),
+        ("1 purge x", 1, 3, Kind::Number),
+        ("1 purge 5 6", 1, 4, Kind::Surplus),
+        ("1 stats 1", 1, 3, Kind::Surplus),
+        ("1 store 5", 1, 4, Kind::Missing),
+        ("1 store 5 01", 1, 5, Kind::Missing),
+        ("1 store 5 0 1", 1, 4, Kind::Key),
+        ("1 store 5 010 1", 1, 4, Kind::Key),
+        ("1 store 5 0g 1", 1, 4, Kind::Key),
+        (
+            "1 store 5 000000000000000000000000000000000000000000000000000000000000000000 1",
+            1,
+            4,
+            Kind::Key,
+        ),
+        ("1 store 5 01 x", 1, 5, Kind::Number),
+        ("1 store 5 01 0 abc 2", 1, 6, Kind::Key),
+        ("1 store 5 01 1 - 0", 1, 6, Kind::Key),
+        ("1 store 5 01 1 00 2", 1, 7, Kind::Range),
+        ("1 store 5 01 1 00 00", 1, 7, Kind::Range),
+        ("1 store 5 01 1 00 x", 1, 7, Kind::Range),
+        ("1 store 5 01 1 00 0 -", 1, 8, Kind::Number),
+        ("1 store 5 01 1 00 0 0 a", 1, 9, Kind::Data),
+        ("1 store 5 01 1 00 0 0 0g", 1, 9, Kind::Data),
+        ("1 store 5 01 1 00 0 0 abc", 1, 9, Kind::Data),
+        ("1 store 5 01 1 00 0 0 --", 1, 9, Kind::Data),
+        ("1 store 5 01 1 00 0 0 *ab", 1, 9, Kind::Data),
+        ("1 store 5 01 1 00 0 0 2*", 1, 9, Kind::Data),
+        ("1 store 5 01 1 00 0 0 2*a", 1, 9, Kind::Data),
+        ("1 store 5 01 1 00 0 0 2*abab", 1, 9, Kind::Data),
+        ("1 store 5 01 1 00 0 0 2*ab*ab", 1, 9, Kind::Data),
+        (
+            "1 store 5 01 1 00 0 0 18446744073709551616*ab",
+            1,
+            9,
+            Kind::Data,
+        ),
+        (
+            "1 store 5 01 1 00 0 0 18446744073709551615*ab",
+            1,
+            9,
+            Kind::DataTooLong,
+        ),
+        (
+            "1 store 5 01 0 00 0 0 10485761*ab 5",
+            1,
+            9,
+            Kind::DataTooLong,
+        ),
+        ("1 store 5 01 1 00 0 0 - -", 1, 10, Kind::Surplus),
+        ("1 get 5 01", 1, 3, Kind::View),
+        ("1 get @all 01", 1, 3, Kind::View),
+        ("1 get 5,@all 01", 1, 3, Kind::View),
+        ("1 get -,5@all 01", 1, 3, Kind::View),
+        ("1 get 5@ 01", 1, 3, Kind::View),
+        ("1 get 5@all@all 01", 1, 3, Kind::View),
+        ("1 get 5@ALL 01", 1, 3, Kind::View),
+        ("1 get 5@all", 1, 4, Kind::Missing),
+        ("1 load 5@all 01 1", 1, 5, Kind::Surplus),
     ] {
+        let fault = read_script(alloc, script.as_bytes()).err();
+        let due = LineError::Fault(LineFault { line, word, kind });
+        assert!(rt; fault == Some(due), "{script}");
         assert!(rt; journal(alloc, script.as_bytes())?.is_none(), "{script}");
     }
     assert!(rt; journal(alloc, b"1 root 5\n\xff\n")?.is_none());
@@ -226,6 +323,7 @@ fn refusals_are_printed(rt: HostRuntime) -> Result<(), Fail> {
             Refusal::RootOrder { slot: 6, newest: 7 },
             "1 root 6 = root-order 6 7\n",
         ),
+        (Refusal::Rooted { slot: 6 }, "1 root 6 = rooted 6\n"),
         (
             Refusal::ViewTooOld {
                 max_root: 7,

@@ -1,12 +1,11 @@
-ghost use Rattle.std.specs.Prelude.{◌≡◌, ◌++◌, ◌∷◌, IfOk, OnOk};
-ghost use Rattle.std.specs.Fmt.{decimal};
-ghost use Rattle.std.specs.List.{flat_map};
+ghost use Rattle.std.specs.Prelude.{◌≡◌, ◌++◌, IfOk, OnOk};
 ghost use Rattle.std.specs.String.{string_bytes};
 ghost use Rattle.hex.specs.Hex.{encode_lower};
-ghost use Rattle.adb_model.specs.Seen.{call_of, reply_of, place_of, refusal_of};
+ghost use Rattle.adb_model.specs.Seen.{call_of, counts_of, reply_of, place_of, refusal_of};
 ghost use Rattle.script.specs.Text as texts;
 
-use adb_model::{Account, Call, Place, Refusal, Reply, Slot, View};
+use crate::printed_view::PrintedView;
+use adb_model::{Account, Call, Place, Refusal, Reply, Stats};
 use std::alloc::{AllocError, Global};
 use std::fmt::Write;
 use text_fields::{push_key, push_number};
@@ -63,30 +62,9 @@ fn push_account(alloc: Global, text: &mut String, account: &Account) -> Result<(
     push_data(alloc, text, account.data())
 }
 
-fn push_more_slots(text: &mut String, slots: &[Slot]) -> Result<(), AllocError>
-    ensures { OnOk result (string_bytes text.new ≡ string_bytes text.old ++ flat_map (λ n. 44 ∷ decimal n) slots.now) }
-{
-    for slot in slots {
-        write!(text, ",{slot}")?;
-    }
-    Ok(())
-}
-
-#[tactic(auto, unfolding(crate::specs::Text::slots_text))]
-fn push_slots(text: &mut String, slots: &[Slot]) -> Result<(), AllocError>
-    ensures { OnOk result (string_bytes text.new ≡ string_bytes text.old ++ texts.slots_text slots.now) }
-{
-    match slots {
-        [] => text.push_str("-"),
-        [first, rest @ ..] => {
-            push_number(text, *first)?;
-            push_more_slots(text, rest)
-        }
-    }
-}
-
+/// Puts `all`, or the number, at the end of a text.
 #[tactic(auto, unfolding(crate::specs::Text::max_root_text))]
-fn push_max_root(text: &mut String, max_root: u64) -> Result<(), AllocError>
+pub fn push_max_root(text: &mut String, max_root: u64) -> Result<(), AllocError>
     ensures { OnOk result (string_bytes text.new ≡ string_bytes text.old ++ texts.max_root_text max_root) }
 {
     if max_root == u64::MAX {
@@ -95,17 +73,13 @@ fn push_max_root(text: &mut String, max_root: u64) -> Result<(), AllocError>
     push_number(text, max_root)
 }
 
-#[tactic(auto, unfolding(crate::specs::Text::view_text))]
-fn push_view(text: &mut String, view: &View) -> Result<(), AllocError>
-    ensures { OnOk result (string_bytes text.new ≡ string_bytes text.old ++ texts.view_text view.now) }
-{
-    push_slots(text, view.ancestors())?;
-    text.push_str("@")?;
-    push_max_root(text, view.max_root())
-}
-
 #[tactic(auto, unfolding(crate::specs::Text::call_text))]
-fn push_call(alloc: Global, text: &mut String, call: &Call) -> Result<(), AllocError>
+fn push_call(
+    alloc: Global,
+    text: &mut String,
+    last: &mut PrintedView,
+    call: &Call,
+) -> Result<(), AllocError>
     ensures { OnOk result (string_bytes text.new ≡ string_bytes text.old ++ texts.call_text (call_of call.now)) }
 {
     match call {
@@ -116,12 +90,14 @@ fn push_call(alloc: Global, text: &mut String, call: &Call) -> Result<(), AllocE
             push_account(alloc, text, account)
         }
         Call::Root { slot } => write!(text, "root {slot}"),
+        Call::Purge { slot } => write!(text, "purge {slot}"),
         Call::Load { view, key } => {
             text.push_str("load ")?;
-            push_view(text, view)?;
+            last.push(alloc, text, view)?;
             text.push_str(" ")?;
             push_key(alloc, text, &key.0)
         }
+        Call::Stats => text.push_str("stats"),
     }
 }
 
@@ -141,6 +117,7 @@ fn push_refusal(text: &mut String, refusal: Refusal) -> Result<(), AllocError>
     match refusal {
         Refusal::SlotRooted { slot, newest } => write!(text, "slot-rooted {slot} {newest}"),
         Refusal::RootOrder { slot, newest } => write!(text, "root-order {slot} {newest}"),
+        Refusal::Rooted { slot } => write!(text, "rooted {slot}"),
         Refusal::ViewTooOld { max_root, cleaned } => {
             text.push_str("view-too-old ")?;
             push_max_root(text, max_root)?;
@@ -150,6 +127,27 @@ fn push_refusal(text: &mut String, refusal: Refusal) -> Result<(), AllocError>
     }
 }
 
+#[tactic(auto, unfolding(crate::specs::Text::counts_text))]
+fn push_stats(text: &mut String, stats: &Stats) -> Result<(), AllocError>
+    ensures { OnOk result (string_bytes text.new ≡ string_bytes text.old ++ texts.counts_text (counts_of stats.now)) }
+{
+    let Stats {
+        cached,
+        filling,
+        live,
+        retired,
+        named,
+        rows,
+        bytes,
+        pins,
+    } = *stats;
+    write!(
+        text,
+        "cached {cached} filling {filling} live {live} retired {retired} "
+    )?;
+    write!(text, "named {named} rows {rows} bytes {bytes} pins {pins}")
+}
+
 #[tactic(auto, unfolding(crate::specs::Text::reply_text))]
 fn push_reply(alloc: Global, text: &mut String, reply: &Reply) -> Result<(), AllocError>
     ensures { OnOk result (string_bytes text.new ≡ string_bytes text.old ++ texts.reply_text (reply_of reply.now)) }
@@ -157,6 +155,7 @@ fn push_reply(alloc: Global, text: &mut String, reply: &Reply) -> Result<(), All
     match reply {
         Reply::Done => text.push_str("ok"),
         Reply::Refused { refusal } => push_refusal(text, *refusal),
+        Reply::Purged { keys } => write!(text, "ok {keys}"),
         Reply::NotFound => text.push_str("none"),
         Reply::Found {
             slot,
@@ -168,11 +167,67 @@ fn push_reply(alloc: Global, text: &mut String, reply: &Reply) -> Result<(), All
             text.push_str(" ")?;
             push_account(alloc, text, account)
         }
+        Reply::Counted { stats } => push_stats(text, stats),
+    }
+}
+
+// Puts the line of an event at the end of a text.
+#[tactic(auto, unfolding(crate::specs::Text::text_of))]
+fn push_line(
+    alloc: Global,
+    text: &mut String,
+    last: &mut PrintedView,
+    lane: u64,
+    call: &Call,
+    reply: &Reply,
+) -> Result<(), AllocError>
+    ensures { OnOk result (string_bytes text.new ≡ string_bytes text.old ++ texts.text_of (record { pass = lane; call = call_of call.now; reply = reply_of reply.now })) }
+{
+    push_number(text, lane)?;
+    text.push_str(" ")?;
+    push_call(alloc, text, last, call)?;
+    text.push_str(" = ")?;
+    push_reply(alloc, text, reply)?;
+    text.push_str("\n")
+}
+
+/// Prints the lines of a journal, one after the other.
+///
+/// It keeps the memory of a line for the next one, and the text of the last view, which isn't made again for
+/// an equal view.
+#[derive(Drop)]
+pub struct JournalPrinter {
+    line: String,
+    last: PrintedView,
+}
+
+impl JournalPrinter {
+    /// A printer that has printed nothing.
+    pub fn new(alloc: Global) -> JournalPrinter {
+        JournalPrinter {
+            line: String::new(alloc),
+            last: PrintedView::new(alloc),
+        }
+    }
+
+    /// The journal's line of an event, as [`line_text`] gives it. After want of memory the next line is printed
+    /// as ever.
+    pub fn print(
+        &mut self,
+        alloc: Global,
+        lane: u64,
+        call: &Call,
+        reply: &Reply,
+    ) -> Result<&[u8], AllocError>
+        ensures { IfOk result (λ line. line.now ≡ texts.text_of (record { pass = lane; call = call_of call.now; reply = reply_of reply.now })) }
+    {
+        self.line.clear();
+        push_line(alloc, &mut self.line, &mut self.last, lane, call, reply)?;
+        Ok(self.line.as_bytes())
     }
 }
 
 /// The journal's line of an event: the lane, the call, `=` and the reply, with single spaces, and a newline.
-#[tactic(auto, unfolding(crate::specs::Text::text_of))]
 pub fn line_text(
     alloc: Global,
     lane: u64,
@@ -182,10 +237,7 @@ pub fn line_text(
     ensures { IfOk result (λ line. line.items ≡ texts.text_of (record { pass = lane; call = call_of call.now; reply = reply_of reply.now })) }
 {
     let mut text = String::with_capacity(alloc, LINE_ROOM)?;
-    write!(text, "{lane} ")?;
-    push_call(alloc, &mut text, call)?;
-    text.push_str(" = ")?;
-    push_reply(alloc, &mut text, reply)?;
-    text.push_str("\n")?;
+    let mut last = PrintedView::new(alloc);
+    push_line(alloc, &mut text, &mut last, lane, call, reply)?;
     Ok(text.into_bytes())
 }

@@ -1,10 +1,12 @@
 ghost use Rattle.std.specs.Prelude.{◌≡◌, ◌==◌, ◌≤◌, length, vec_len, map, count_by, IfOk, IfSome};
 ghost use Rattle.std.specs.Option.{option_map};
-ghost use Rattle.std.specs.List.{slice_split, before_first, after_first, position_or_len};
+ghost use Rattle.std.specs.List.{slice_split};
 ghost use Rattle.script.specs.Arguments as words;
 
+use crate::words::halves;
 use adb_model::{MAX_ANCESTORS, View, ViewFault};
 use std::alloc::{AllocError, Global};
+use std::marker::Model;
 use text_fields::read_number;
 
 // The numbers of the parts, where each is one.
@@ -61,42 +63,63 @@ fn max_root(word: &[u8]) -> Option<u64>
     read_number(word)
 }
 
-// The index of the first `@`, or the length.
-fn at_sign(word: &[u8]) -> usize
-    ensures { result ≡ position_or_len (λ b. b == 64) word.now }
-{
-    word.iter().take_while(|byte| **byte != b'@').count()
-}
-
-// What stands before the first `@`, and after it.
-fn halves(word: &[u8]) -> (&[u8], &[u8])
-    ensures before { result.0.now ≡ before_first (λ b. b == 64) word.now }
-    ensures after { result.1.now ≡ after_first (λ b. b == 64) word.now }
-{
-    let at = at_sign(word);
-    if at >= word.len() {
-        return (word, &[]);
-    }
-    let (front, _) = word.split_at(at);
-    let (_, back) = word.split_at(at + 1);
-    (front, back)
-}
-
-/// The view that a word is: ancestors, `@` and the greatest root.
+// The view that a word is: ancestors, `@` and the greatest root.
 #[tactic(auto, unfolding(crate::specs::Arguments::view_of))]
-pub fn read_view(alloc: Global, word: &[u8]) -> Result<Option<View>, AllocError>
+fn read_view(alloc: Global, word: &[u8]) -> Result<Option<View>, AllocError>
     ensures { IfOk result (λ view. view ≡ words.view_of word.now) }
 {
-    let (front, back) = halves(word);
+    let (front, back) = halves(word, b'@');
     let Some(slots) = ancestors(alloc, front)? else {
         return Ok(None);
     };
     let Some(most) = max_root(back) else {
         return Ok(None);
     };
-    match View::new(alloc, &slots, most) {
+    match View::from_vec(alloc, slots, most) {
         Ok(view) => Ok(Some(view)),
         Err(ViewFault::NoMemory) => Err(AllocError),
         Err(ViewFault::TooManyAncestors { .. }) => unreachable!(),
+    }
+}
+
+/// The word that was last read as a view, with what it says, so that the same word isn't read again.
+#[derive(Drop)]
+pub struct LastView<'a> {
+    word: &'a [u8],
+    view: Option<View>,
+}
+
+impl<'a> Model for LastView<'a> {
+    ghost use Rattle.std.specs.Prelude.{◌≡◌};
+    ghost use Rattle.script.specs.Arguments as words;
+
+    ghost Value = { Unit {0} };
+
+    ghost view = { λ _. tt };
+
+    ghost invariant = { λ last. last.view ≡ words.view_of last.word.now };
+}
+
+impl<'a> LastView<'a> {
+    /// No word was read yet.
+    pub fn new() -> LastView<'a> {
+        LastView {
+            word: &[],
+            view: None,
+        }
+    }
+
+    /// The view that a word is.
+    pub fn read(&mut self, alloc: Global, word: &'a [u8]) -> Result<Option<View>, AllocError>
+        ensures { IfOk result (λ view. view ≡ words.view_of word.now) }
+    {
+        if word != self.word {
+            let view = read_view(alloc, word)?;
+            *self = LastView { word, view };
+        }
+        match &self.view {
+            Some(view) => Ok(Some(view.try_copy(alloc)?)),
+            None => Ok(None),
+        }
     }
 }

@@ -1,6 +1,8 @@
 ghost use Rattle.std.specs.Prelude.{◌≡◌, ◌==◌, ◌∷◌, not, length, slice_index, MatchOption, []};
-ghost use Rattle.std.specs.List.{position_or_len, prefix_len};
+ghost use Rattle.std.specs.List.{position_or_len, prefix_len, before_first, after_first};
 ghost use Rattle.script.specs.Words as texts;
+
+use memchr::{memchr, memchr2};
 
 fn is_blank(byte: u8) -> bool
     ensures { result ≡ texts.is_blank byte }
@@ -16,10 +18,11 @@ fn blanks(line: &[u8]) -> usize
 }
 
 // How many bytes stand before the first blank.
+#[tactic(auto, using(crate::proofs::SearchLemmas::place_or_len))]
 fn word_len(line: &[u8]) -> usize
     ensures { result ≡ position_or_len (λ b. texts.is_blank b) line.now }
 {
-    line.iter().take_while(|byte| !is_blank(**byte)).count()
+    memchr2(b' ', b'\t', line).unwrap_or(line.len())
 }
 
 /// The first word of a line and what follows it, where the line has a word.
@@ -36,6 +39,28 @@ pub fn split_word(line: &[u8]) -> Option<(&[u8], &[u8])>
         return None;
     }
     Some((word, rest))
+}
+
+// The index of the first separator, or the length.
+#[tactic(auto, using(crate::proofs::SearchLemmas::place_or_len))]
+fn separator_at(word: &[u8], separator: u8) -> usize
+    ensures { result ≡ position_or_len (λ b. b == separator) word.now }
+{
+    memchr(separator, word).unwrap_or(word.len())
+}
+
+/// What stands before the first separator, and after it.
+pub fn halves(word: &[u8], separator: u8) -> (&[u8], &[u8])
+    ensures before { result.0.now ≡ before_first (λ b. b == separator) word.now }
+    ensures after { result.1.now ≡ after_first (λ b. b == separator) word.now }
+{
+    let at = separator_at(word, separator);
+    if at >= word.len() {
+        return (word, &[]);
+    }
+    let (front, _) = word.split_at(at);
+    let (_, back) = word.split_at(at + 1);
+    (front, back)
 }
 
 /// Whether a line whose first word this is counts as a comment.

@@ -1,10 +1,19 @@
-use Rattle.std.proofs.Common.{sym, ◌∙◌}
-use Rattle.text_fields.proofs.NumberLemmas.{number_parsed, digits_are_text}
+use Rattle.std.proofs.Common.{rules, ◌∙◌, refl, arith}
+use Rattle.text_fields.proofs.NumberLemmas.{read_none, read_digit, read_no_digit, read_all}
 use Rattle.text_fields.proofs.number.read_number.Goals as goal
 
-pub returns-in-Ok : goal.returns-in-Ok
-returns-in-Ok c =
-    c.ok.ensures.value ∙ number_parsed c.args.word.now c.parse.result (rw c.in-Ok.ensures.cases.0 at c.parse.ensures.value.0) c.if-word-gt-MOST_DIGITS.false (sym c.are_digits.ensures ∙ c.if-not-are_digits.false)
+pub loop-byte-init : goal.loop-byte-init
+loop-byte-init c = (read_none c.args.word.now, omega arith)
 
-pub returns-in-Err : goal.returns-in-Err
-returns-in-Err c = absurd (c.in-Err.ensures.cases.0 (digits_are_text c.args.word.now (sym c.are_digits.ensures ∙ c.if-not-are_digits.false)))
+pub returns-in_err-number : goal.returns-in_err-number
+returns-in_err-number c =
+    c.from_residual.ensures ∙ read_no_digit c.args.word.now c.loop-byte.number c.loop-byte.byte-index c.loop-byte.invariant.0 c.loop-byte-test.true (c.in_err-number.ensures.none refl)
+
+pub loop-byte-preserved : goal.loop-byte-preserved
+loop-byte-preserved c =
+    let more = c.in_ok-number.ensures.more in
+    (read_digit c.args.word.now c.loop-byte.number c.in_ok-number.number c.loop-byte.byte-index c.loop-byte.invariant.0 c.loop-byte-test.true more.0 more.1, search rules)
+
+pub returns : goal.returns
+returns c =
+    read_all c.args.word.now c.loop-byte.number c.loop-byte.byte-index c.loop-byte.invariant.0 c.loop-byte-test.false (search rules) c.if-word-gt-MOST_DIGITS.false c.loop-byte.invariant.1
