@@ -1,5 +1,5 @@
 -- What an edit of one entry leaves: what is kept of each key, and what holds of all entries.
-use Rattle.std.proofs.Common.{◌≡◌, ◌≢◌, ℕ, suc, ◌+◌, ◌-◌, ◌<◌, ◌≤◌, List, [], ◌∷◌, length, set, get_or, true, eqb, ◌++◌, refl, sym, ap, subst, ◌∙◌, inl, inr, arith, All, length-set, get_or-set_same, get_or-set_other}
+use Rattle.std.proofs.Common.{◌≡◌, ℕ, suc, ◌+◌, ◌-◌, ◌<◌, ◌≤◌, List, [], ◌∷◌, length, set, get_or, true, eqb, ◌++◌, refl, sym, ap, subst, ◌∙◌, inl, inr, arith, All, length-set, get_or-set_same, get_or-set_other}
 use Rattle.std.proofs.Common.{zero, Result, Ok, Err, OnOk, OnErr}
 use Rattle.std.specs.List.{insert, remove}
 use Rattle.std.specs.Str.{bytes_eq}
@@ -11,10 +11,11 @@ use Rattle.std.proofs.lemmas.List.Edits.{length-insert, get_or-insert_below, get
 use Rattle.view_sets.specs.Slots.{among}
 use Rattle.slot_list.specs.Versions.{without_slot}
 use Rattle.accounts_index.specs.declared.entry.Entry.{Entry}
+use Rattle.accounts_index.specs.declared.entry.Lists.{Lists}
 use Rattle.accounts_index.specs.Index.{Kept, kept, nothing, key_cmp, Index, IsWith}
 use Rattle.accounts_index.specs.Inside.{seen, kept_of, KeysRise, HasRoom, IsUsed, AreEntries, AreEntriesBut}
 use Rattle.accounts_index.specs.Places.{IsAt, IsGap}
-use Rattle.accounts_index.proofs.Keys.{same_bytes, greater_turned, key_cmp-self}
+use Rattle.accounts_index.proofs.Keys.{same_bytes, greater_turned, key_cmp-self, at_or_apart}
 use Rattle.accounts_index.proofs.Lookups.{kept_at, kept_gap, IsWith-set, IsWith-remove}
 use Rattle.accounts_index.proofs.Searches.{found_there}
 
@@ -22,29 +23,27 @@ use Rattle.accounts_index.proofs.Searches.{found_there}
 pub IsWith-to : (old new : Index) (key : List ℕ) (k l : Kept) → IsWith old new key k → k ≡ l → IsWith old new key l
 IsWith-to old new key k l is same = subst (IsWith old new key) same is
 
--- the place at or below which an element lies
-at_or_apart : {P : Type 0} (k i : ℕ) → (k ≡ i → P) → (k ≢ i → P) → P
-at_or_apart k i same apart = elim (cases_lt k i) [
-  | inl below ↦ apart (λ e. omega arith)
-  | inr not_below ↦ elim (cases_lt i k) [ inl above ↦ apart (λ e. omega arith) | inr not_above ↦ same (omega arith) ]
-]
-
 module _ (es : List Entry) (key : List ℕ) (i : ℕ) (found : IsAt es key i) (e : Entry) (read : e ≡ get_or es i e) where
   -- the entry that was read at the place of the key
   pub read_key : e.key.0 ≡ key
   read_key = ap (λ (x : Entry). x.key.0) read ∙ found.has_key e
 
-  pub read_kept : kept (seen es) key ≡ kept_of e
-  read_kept = kept_at es key i found e ∙ ap kept_of (sym read)
+  -- the lists in its box
+  module _ (lists : Lists) (inside : lists ≡ e.lists.value) where
+    in_box : lists ≡ (get_or es i e).lists.value
+    in_box = inside ∙ ap (λ (x : Entry). x.lists.value) read
 
-  pub read_room : AreEntries es → HasRoom e
-  read_room all = subst HasRoom (sym read) (all.room i e found.in_range)
+    pub read_kept : kept (seen es) key ≡ kept_of lists
+    read_kept = kept_at es key i found e ∙ ap kept_of (sym in_box)
 
-  pub read_used : AreEntries es → IsUsed e
-  read_used all = subst IsUsed (sym read) (all.used i e found.in_range)
+    pub read_room : AreEntries es → HasRoom lists
+    read_room all = subst HasRoom (sym in_box) (all.room i e found.in_range)
+
+    pub read_used : AreEntries es → IsUsed lists
+    read_used all = subst IsUsed (sym in_box) (all.used i e found.in_range)
 
   module _ (x : Entry) (same : x.key.0 ≡ e.key.0) where
-    pub IsWith-write : IsWith (seen es) (seen (set es i x)) key (kept_of x)
+    pub IsWith-write : IsWith (seen es) (seen (set es i x)) key (kept_of x.lists.value)
     IsWith-write = IsWith-set es key i found x (same ∙ read_key)
 
     key-write : (k : ℕ) (d : Entry) → k < length es → (get_or (set es i x) k d).key.0 ≡ (get_or es k d).key.0
@@ -59,19 +58,19 @@ module _ (es : List Entry) (key : List ℕ) (i : ℕ) (found : IsAt es key i) (e
         ∙ ap (key_cmp (get_or es k d).key.0) (key-write l d inside) ∙ rise k l d lt inside
 
     -- the other entries stay as they were
-    pub AreEntries-write : AreEntries es → HasRoom x → IsUsed x → AreEntries (set es i x)
+    pub AreEntries-write : AreEntries es → HasRoom x.lists.value → IsUsed x.lists.value → AreEntries (set es i x)
     AreEntries-write all room used = record {
       rise = rise-write all.rise;
-      room = All-set HasRoom es i x room all.room;
-      used = All-set IsUsed es i x used all.used;
+      room = All-set (λ e. HasRoom e.lists.value) es i x room all.room;
+      used = All-set (λ e. IsUsed e.lists.value) es i x used all.used;
     }
 
-    pub AreEntriesBut-write : AreEntries es → HasRoom x → AreEntriesBut (set es i x) i
+    pub AreEntriesBut-write : AreEntries es → HasRoom x.lists.value → AreEntriesBut (set es i x) i
     AreEntriesBut-write all room = record {
       in_range = omega (arith, length-set es i x, found.in_range);
       rise = rise-write all.rise;
-      room = All-set HasRoom es i x room all.room;
-      used = λ k d apart lt. subst IsUsed (sym (get_or-set_other es i k x d apart)) (all.used k d (omega (arith, length-set es i x)));
+      room = All-set (λ e. HasRoom e.lists.value) es i x room all.room;
+      used = λ k d apart lt. subst (λ e. IsUsed e.lists.value) (sym (get_or-set_other es i k x d apart)) (all.used k d (omega (arith, length-set es i x)));
     }
 
 module _ (es : List Entry) (key : List ℕ) (i : ℕ) (gap : IsGap es key i) (x : Entry) (is : x.key.0 ≡ key) where
@@ -124,11 +123,11 @@ module _ (es : List Entry) (key : List ℕ) (i : ℕ) (gap : IsGap es key i) (x 
     ]
   ]
 
-  pub AreEntries-new : AreEntries es → HasRoom x → IsUsed x → AreEntries (insert es i x)
+  pub AreEntries-new : AreEntries es → HasRoom x.lists.value → IsUsed x.lists.value → AreEntries (insert es i x)
   AreEntries-new all room used = record {
     rise = rise-new all.rise;
-    room = every HasRoom room all.room;
-    used = every IsUsed used all.used;
+    room = every (λ e. HasRoom e.lists.value) room all.room;
+    used = every (λ e. IsUsed e.lists.value) used all.used;
   }
     where
       every : (P : Entry → Type 0) → P x → All P es → All P (insert es i x)
@@ -151,20 +150,20 @@ none_left : (a b : ℕ) → (0 < a + b → ⊥) → a ≡ 0
 none_left a b none = elim (cases_lt 0 a) [ inl some ↦ absurd (none (omega arith)) | inr le ↦ omega arith ]
 
 -- nothing is kept of what is of no use
-unused : (e : Entry) → (IsUsed e → ⊥) → kept_of e ≡ nothing
-unused e none =
-    let versions : e.list.versions ≡ [] = no_length _ (none_left (length e.list.versions) (length e.list.held + length e.expected.items) (λ p. none (omega arith))) in
-    let held : e.list.held ≡ [] = no_length _ (none_left (length e.list.held) (length e.list.versions + length e.expected.items) (λ p. none (omega arith))) in
-    let expected : e.expected.items ≡ [] = no_length _ (none_left (length e.expected.items) (length e.list.versions + length e.list.held) (λ p. none (omega arith))) in
+unused : (lists : Lists) → (IsUsed lists → ⊥) → kept_of lists ≡ nothing
+unused lists none =
+    let versions : lists.list.versions ≡ [] = no_length _ (none_left (length lists.list.versions) (length lists.list.held + length lists.expected.items) (λ p. none (omega arith))) in
+    let held : lists.list.held ≡ [] = no_length _ (none_left (length lists.list.held) (length lists.list.versions + length lists.expected.items) (λ p. none (omega arith))) in
+    let expected : lists.expected.items ≡ [] = no_length _ (none_left (length lists.expected.items) (length lists.list.versions + length lists.list.held) (λ p. none (omega arith))) in
     λ j. record { versions = versions j; held = held j; expected = expected j }
 
 -- an entry of no use leaves, and of every key the same is kept
-pub kept-remove : (es : List Entry) (i : ℕ) (e : Entry) → KeysRise es → i < length es → e ≡ get_or es i e → (IsUsed e → ⊥) → (q : List ℕ) → kept (seen (remove es i)) q ≡ kept (seen es) q
+pub kept-remove : (es : List Entry) (i : ℕ) (e : Entry) → KeysRise es → i < length es → e ≡ get_or es i e → (IsUsed e.lists.value → ⊥) → (q : List ℕ) → kept (seen (remove es i)) q ≡ kept (seen es) q
 kept-remove es i e rise in_range read none q =
     let own : (d : Entry) → (get_or es i d).key.0 ≡ e.key.0 = λ d. ap (λ (y : Entry). y.key.0) (get_or_default es i d e in_range ∙ sym read) in
     let found = found_there es rise e.key.0 i in_range (λ d. ap (λ k. key_cmp k e.key.0) (own d) ∙ key_cmp-self e.key.0) in
     IsWith-remove es e.key.0 i found q ∙ elim (cases_Bool (bytes_eq e.key.0 q)) [
-      | inl same ↦ rw same (sym (ap (kept (seen es)) (sym (same_bytes e.key.0 q same)) ∙ kept_at es e.key.0 i found e ∙ ap kept_of (sym read) ∙ unused e none))
+      | inl same ↦ rw same (sym (ap (kept (seen es)) (sym (same_bytes e.key.0 q same)) ∙ kept_at es e.key.0 i found e ∙ ap (λ (x : Entry). kept_of x.lists.value) (sym read) ∙ unused e.lists.value none))
       | inr differs ↦ rw differs refl
     ]
 
@@ -199,13 +198,13 @@ IsWith-same es key i gap q = elim (cases_Bool (bytes_eq key q)) [
 ]
 
 -- an entry is written over with one that keeps the same
-pub seen_same : (es : List Entry) (i : ℕ) (e x : Entry) → i < length es → e ≡ get_or es i e → x.key.0 ≡ e.key.0 → kept_of x ≡ kept_of e → seen (set es i x) ≡ seen es
+pub seen_same : (es : List Entry) (i : ℕ) (e x : Entry) → i < length es → e ≡ get_or es i e → x.key.0 ≡ e.key.0 → kept_of x.lists.value ≡ kept_of e.lists.value → seen (set es i x) ≡ seen es
 seen_same [] i e x lt read key is = absurd (omega arith)
 seen_same (y ∷ es) zero e x lt read key is =
-    let kept_y : kept_of x ≡ kept_of y = is ∙ ap kept_of read in
+    let kept_y : kept_of x.lists.value ≡ kept_of y.lists.value = is ∙ ap (λ (z : Entry). kept_of z.lists.value) read in
     let key_y : x.key.0 ≡ y.key.0 = key ∙ ap (λ (z : Entry). z.key.0) read in
     λ j. (key_y j, kept_y j) ∷ seen es
-seen_same (y ∷ es) (suc i) e x lt read key is = ap (λ l. (y.key.0, kept_of y) ∷ l) (seen_same es i e x (omega arith) read key is)
+seen_same (y ∷ es) (suc i) e x lt read key is = ap (λ l. (y.key.0, kept_of y.lists.value) ∷ l) (seen_same es i e x (omega arith) read key is)
 
 -- a fact stands after any error
 pub on_err_any : {T E P : Type 0} (r : Result T E) → P → OnErr r P
@@ -218,8 +217,8 @@ either (Ok x) ok err f g = f ok
 either (Err e) ok err f g = g err
 
 -- what is read at the place of a key is what the index keeps of it
-pub seen_kept : (index : Index) (inside es : List Entry) (key : List ℕ) (i : ℕ) (e : Entry) → index ≡ seen inside → es ≡ inside → IsAt es key i → e ≡ get_or inside i e → kept index key ≡ kept_of e
-seen_kept index inside es key i e view same found read = ap (λ v. kept v key) view ∙ read_kept inside key i (subst (λ l. IsAt l key i) same found) e read
+pub seen_kept : (index : Index) (held es : List Entry) (key : List ℕ) (i : ℕ) (e : Entry) (lists : Lists) → index ≡ seen held → es ≡ held → IsAt es key i → e ≡ get_or held i e → lists ≡ e.lists.value → kept index key ≡ kept_of lists
+seen_kept index held es key i e lists view same found read inside = ap (λ v. kept v key) view ∙ read_kept held key i (subst (λ l. IsAt l key i) same found) e read lists inside
 
 pub seen_nothing : (index : Index) (inside es : List Entry) (key : List ℕ) (i : ℕ) → index ≡ seen inside → es ≡ inside → IsGap es key i → kept index key ≡ nothing
 seen_nothing index inside es key i view same gap = ap (λ v. kept v key) (view ∙ ap seen (sym same)) ∙ kept_gap es key i gap

@@ -1,5 +1,6 @@
 -- The order of keys.
-use Rattle.std.proofs.Common.{◌≡◌, ℕ, List, true, false, refl, ap, ◌∙◌}
+use Rattle.std.proofs.Common.{◌≡◌, ◌≢◌, ℕ, List, true, false, refl, ap, ◌∙◌, inl, inr, arith}
+use Rattle.std.proofs.lemmas.Bool.{cases_lt}
 use Rattle.std.specs.Ordering.{is_eq, ordering_reverse}
 use Rattle.std.specs.Str.{bytes_eq}
 use Rattle.std.specs.declared.cmp.Ordering.TheVariants.{Less, Equal, Greater}
@@ -34,3 +35,10 @@ greater_turned a b e = nat_list_cmp_total.antisymm b a ∙ ap ordering_reverse e
 
 pub key_cmp-self : (a : List ℕ) → key_cmp a a ≡ Equal
 key_cmp-self a = tied_itself nat_list_cmp_total a
+
+-- two numbers are one, or apart
+pub at_or_apart : {P : Type 0} (k i : ℕ) → (k ≡ i → P) → (k ≢ i → P) → P
+at_or_apart k i same apart = elim (cases_lt k i) [
+  | inl below ↦ apart (λ e. omega arith)
+  | inr not_below ↦ elim (cases_lt i k) [ inl above ↦ apart (λ e. omega arith) | inr not_above ↦ same (omega arith) ]
+]

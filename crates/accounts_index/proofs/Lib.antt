@@ -1,5 +1,9 @@
 pub mod Keys
+pub mod Used
 pub mod Lookups
 pub mod Searches
+pub mod Joined
+pub mod Ordered
 pub mod Changes
 pub mod Walks
+pub mod Onward

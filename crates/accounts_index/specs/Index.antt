@@ -1,11 +1,12 @@
 -- What contracts see of an index: what is kept of each key, by rising key.
-use Rattle.std.specs.Prelude.{◌≡◌, ℕ, nat_lt, ◌&&◌, ◌||◌, Bool, true, false, if◌then◌else◌, List, [], length, Option, Some, None, unwrap_or, find, filter, map, option_map}
+use Rattle.std.specs.Prelude.{◌≡◌, ℕ, nat_lt, ◌&&◌, ◌||◌, Bool, true, false, if◌then◌else◌, List, [], length, Option, Some, None, unwrap_or, find, filter, map, option_map, AllPairs}
 use Rattle.std.specs.List.{list_any}
 use Rattle.std.specs.Map.{lookup}
 use Rattle.std.specs.Str.{bytes_eq}
 use Rattle.std.specs.Ordering.{nat_cmp, is_lt}
 use Rattle.std.specs.Cmp.Lexicographic.{slice_cmp}
 use Rattle.std.specs.declared.cmp.Ordering.{Ordering}
+use Rattle.std.specs.declared.cmp.Ordering.TheVariants.{Less}
 use Rattle.slot_list.specs.declared.Place.{Place}
 use Rattle.slot_list.specs.declared.Place.TheVariants.{Cached, Stored}
 use Rattle.slot_list.specs.declared.Version.{Version}
@@ -33,6 +34,10 @@ IsWith old new key of_key = (q : List ℕ) → kept new q ≡ (if bytes_eq key q
 -- the order of keys, byte by byte
 abbrev pub key_cmp : List ℕ → List ℕ → Ordering
 key_cmp a b = slice_cmp nat_cmp a b
+
+-- each key is below all later ones
+abbrev pub IsOrdered : Index → Type 0
+IsOrdered index = AllPairs (λ a b. key_cmp a.0 b.0 ≡ Less) index
 
 -- the key is above another one, if one is given
 abbrev pub is_above : Option (List ℕ) → List ℕ → Bool

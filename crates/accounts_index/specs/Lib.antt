@@ -1,3 +1,4 @@
+pub mod Bins
 pub mod Index
 pub mod Inside
 pub mod Places

@@ -5,7 +5,7 @@ ghost use Rattle.accounts_index.specs.Index.{kept, IsWith};
 ghost use Rattle.accounts_index.specs.Inside.{seen, AreEntries, AreEntriesBut};
 ghost use Rattle.accounts_index.specs.Places.{IsGap};
 
-use crate::entry::Entry;
+use crate::entry::{Entry, Lists};
 use crate::search::find_place;
 use adb_model::{Key, Slot};
 use slot_list::{Place, SlotList, Version};
@@ -27,13 +27,13 @@ pub fn upsert(
 {
     match find_place(entries, key) {
         Ok(place) => {
-            let entry = &mut entries[place];
-            entry.list.put(version)
+            let lists = &mut *entries[place].lists;
+            lists.list.put(version)
         }
         Err(place) => {
             let mut list = SlotList::new(alloc);
             list.put(version)?;
-            insert(entries, place, *key, list, Vec::new(alloc))
+            insert(entries, alloc, place, *key, list, Vec::new(alloc))
         }
     }
 }
@@ -48,8 +48,8 @@ pub fn drop_version(entries: &mut Vec<Entry>, key: &Key, slot: Slot)
 {
     match find_place(entries, key) {
         Ok(place) => {
-            let entry = &mut entries[place];
-            let _ = entry.list.take(slot);
+            let lists = &mut *entries[place].lists;
+            let _ = lists.list.take(slot);
             drop_unused(entries, place);
         }
         Err(_) => unreachable!(),
@@ -70,6 +70,7 @@ fn drop_unused(entries: &mut Vec<Entry>, place: usize)
 /// A new entry at its place.
 fn insert(
     entries: &mut Vec<Entry>,
+    alloc: Global,
     place: usize,
     key: Key,
     list: SlotList,
@@ -84,12 +85,8 @@ fn insert(
         (record { versions = list.versions; held = list.held; expected = expected.items })) }
     ensures err { OnErr result (seen entries.new.items ≡ seen entries.old.items) }
 {
-    let entry = Entry {
-        key,
-        list,
-        expected,
-    };
-    entries.insert(place, entry)?;
+    let lists = Box::new(alloc, Lists { list, expected })?;
+    entries.insert(place, Entry { key, lists })?;
     Ok(())
 }
 
@@ -103,8 +100,8 @@ pub fn rehome(entries: &mut Vec<Entry>, key: &Key, slot: Slot, place: Place)
 {
     match find_place(entries, key) {
         Ok(found) => {
-            let entry = &mut entries[found];
-            entry.list.rehome(slot, place);
+            let lists = &mut *entries[found].lists;
+            lists.list.rehome(slot, place);
         }
         Err(_) => unreachable!(),
     }
@@ -125,9 +122,9 @@ pub fn expect(
 {
     match find_place(entries, key) {
         Ok(place) => {
-            let entry = &mut entries[place];
-            entry.list.room(entry.expected.len() + 1)?;
-            entry.expected.push(slot)?;
+            let lists = &mut *entries[place].lists;
+            lists.list.room(lists.expected.len() + 1)?;
+            lists.expected.push(slot)?;
             Ok(())
         }
         Err(place) => {
@@ -135,7 +132,7 @@ pub fn expect(
             list.room(1)?;
             let mut expected = Vec::new(alloc);
             expected.push(slot)?;
-            insert(entries, place, *key, list, expected)
+            insert(entries, alloc, place, *key, list, expected)
         }
     }
 }
@@ -148,8 +145,8 @@ pub fn unexpect(entries: &mut Vec<Entry>, key: &Key, slot: Slot)
         IsWith (seen entries.old.items) (seen entries.new.items) key.now.0 (record old { expected = without_slot slot old.expected }) }
 {
     if let Ok(place) = find_place(entries, key) {
-        let entry = &mut entries[place];
-        forget(&mut entry.expected, slot);
+        let lists = &mut *entries[place].lists;
+        forget(&mut lists.expected, slot);
         drop_unused(entries, place);
     }
 }
@@ -166,9 +163,9 @@ pub fn hold(entries: &mut Vec<Entry>, key: &Key, slot: Slot)
 {
     match find_place(entries, key) {
         Ok(place) => {
-            let entry = &mut entries[place];
-            entry.list.hold(slot);
-            forget(&mut entry.expected, slot);
+            let lists = &mut *entries[place].lists;
+            lists.list.hold(slot);
+            forget(&mut lists.expected, slot);
         }
         Err(_) => unreachable!(),
     }
@@ -182,8 +179,8 @@ pub fn unhold(entries: &mut Vec<Entry>, key: &Key, slot: Slot)
         IsWith (seen entries.old.items) (seen entries.new.items) key.now.0 (record old { held = without_slot slot old.held }) }
 {
     if let Ok(place) = find_place(entries, key) {
-        let entry = &mut entries[place];
-        let _ = entry.list.unhold(slot);
+        let lists = &mut *entries[place].lists;
+        let _ = lists.list.unhold(slot);
         drop_unused(entries, place);
     }
 }

@@ -5,10 +5,16 @@ ghost use Rattle.accounts_index.specs.Index.{is_crowded, is_stored};
 use adb_model::Key;
 use slot_list::{Place, SlotList, Version};
 
-/// A key with what is kept of it.
+/// A key with what is kept of it, in a box: a search reads keys and an insertion moves entries, so these are small.
 #[derive(Drop)]
 pub struct Entry {
     pub key: Key,
+    pub lists: Box<Lists>,
+}
+
+/// What is kept of a key.
+#[derive(Drop)]
+pub struct Lists {
     pub list: SlotList,
     /// The slots in which the key will be held, each with room in `list`.
     pub expected: Vec<u64>,
@@ -19,24 +25,24 @@ impl Entry {
 
     /// Whether anything is kept of the key.
     pub fn is_used(&self) -> bool
-        ensures { IsTrue result ↔ IsUsed self.now }
+        ensures { IsTrue result ↔ IsUsed self.now.lists.value }
     {
-        !self.list.versions().is_empty()
-            || !self.list.held().is_empty()
-            || !self.expected.is_empty()
+        !self.lists.list.versions().is_empty()
+            || !self.lists.list.held().is_empty()
+            || !self.lists.expected.is_empty()
     }
 
     pub fn has_versions(&self) -> bool
-        ensures { result ≡ nat_lt 0 (length self.now.list.versions) }
+        ensures { result ≡ nat_lt 0 (length self.now.lists.value.list.versions) }
     {
-        !self.list.versions().is_empty()
+        !self.lists.list.versions().is_empty()
     }
 
     /// Whether the key has two or more versions, or a stored one that is a tomb.
     pub fn is_crowded(&self) -> bool
-        ensures { result ≡ is_crowded self.now.list.versions }
+        ensures { result ≡ is_crowded self.now.lists.value.list.versions }
     {
-        self.list.versions().len() > 1 || has_stored_tomb(self.list.versions())
+        self.lists.list.versions().len() > 1 || has_stored_tomb(self.lists.list.versions())
     }
 }
 

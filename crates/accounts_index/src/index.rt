@@ -1,9 +1,11 @@
 ghost use Rattle.std.specs.Prelude.{◌≡◌, ◌+◌, ◌-◌, ◌*◌, ◌^◌, ◌≤◌, ◌++◌, ◌∷◌, [], true, false, length, take, map, option_map, option_copied, MatchOption, IfOk, OnOk, OnErr, IsOk, IsSome};
 ghost use Rattle.view_sets.specs.Slots.{among};
 ghost use Rattle.slot_list.specs.Versions.{at, put, without, rehomed, with_slot, without_slot};
-ghost use Rattle.accounts_index.specs.Index.{kept, nothing, IsWith, key_after, crowded_after};
+ghost use Rattle.accounts_index.specs.Bins.{AreUsed};
+ghost use Rattle.accounts_index.specs.Index.{kept, nothing, IsWith, IsOrdered, key_after, crowded_after};
 
 use crate::bin::Bin;
+use crate::bins::{self, bin_of, empty_bins, start_of};
 use crate::steps::Steps;
 use adb_model::{Key, Slot};
 use arrayvec::ArrayVec;
@@ -15,15 +17,19 @@ use std::sync::ledger::Ledger;
 /// Keys with what is kept of them: versions by slot, and the slots in which a key is held or expected to be.
 #[derive(Drop)]
 pub struct AccountsIndex {
-    bin: Bin,
+    /// By the first byte of their keys.
+    bins: Vec<Bin>,
 }
 
 impl Model for AccountsIndex {
     ghost use Rattle.accounts_index.specs.Index.{Index};
+    ghost use Rattle.accounts_index.specs.Bins.{joined, AreBins};
 
     ghost Value = { Index };
 
-    ghost view = { λ i. i.bin };
+    ghost view = { λ i. joined i.bins.items };
+
+    ghost invariant = { λ i. AreBins i.bins.items };
 }
 
 impl AccountsIndex {
@@ -32,26 +38,28 @@ impl AccountsIndex {
         ensures { IfOk result (λ index. index ≡ []) }
     {
         Ok(AccountsIndex {
-            bin: Bin::new(alloc),
+            bins: empty_bins(alloc)?,
         })
     }
 
-    /// The list of a key, or `None` where nothing is kept of it. Each comparison of two keys is a step.
+    /// The list of a key, or `None` where nothing is kept of it. Each comparison of two keys is a step. All keys of
+    /// the index count for the bound, and something is kept of each.
     pub fn find<L: Ledger>(&self, key: &Key, steps: &mut Steps<L>) -> Option<&SlotList>
         ensures found { MatchOption (option_copied result)
             (kept self.now key.now.0 ≡ nothing)
             (λ list. (list.versions ≡ (kept self.now key.now.0).versions) × (list.held ≡ (kept self.now key.now.0).held)) }
         ensures later { steps.old ≤ steps.new }
         ensures cost { 2 ^ (steps.new - steps.old) ≤ 2 * length self.now + 1 }
+        ensures used { AreUsed self.now }
     {
-        self.bin.find(key, steps)
+        self.bins[bin_of(key)].find(key, steps)
     }
 
     /// The version that a key has in a slot.
     pub fn version(&self, key: &Key, slot: Slot) -> Option<Version>
         ensures { result ≡ at slot (kept self.now key.now.0).versions }
     {
-        self.bin.version(key, slot)
+        self.bins[bin_of(key)].version(key, slot)
     }
 
     /// Puts a version in, in place of the one that the key has in its slot, which takes no memory.
@@ -61,7 +69,8 @@ impl AccountsIndex {
         ensures err { OnErr result (self.new ≡ self.old) }
         ensures replaces { IsSome (at version.slot (kept self.old key.now.0).versions) → IsOk result }
     {
-        self.bin.upsert(key, version)
+        let bin = &mut self.bins[bin_of(key)];
+        bin.upsert(key, version)
     }
 
     /// Takes a version out. It takes no memory.
@@ -70,7 +79,8 @@ impl AccountsIndex {
         ensures { let old = kept self.old key.now.0 in
             IsWith self.old self.new key.now.0 (record old { versions = without slot old.versions }) }
     {
-        self.bin.drop_version(key, slot);
+        let bin = &mut self.bins[bin_of(key)];
+        bin.drop_version(key, slot);
     }
 
     /// Gives a version another place. It takes no memory.
@@ -79,7 +89,8 @@ impl AccountsIndex {
         ensures { let old = kept self.old key.now.0 in
             IsWith self.old self.new key.now.0 (record old { versions = rehomed slot place old.versions }) }
     {
-        self.bin.rehome(key, slot, place);
+        let bin = &mut self.bins[bin_of(key)];
+        bin.rehome(key, slot, place);
     }
 
     /// Expects a key to be held in a slot, and makes the room that `hold` needs.
@@ -88,7 +99,8 @@ impl AccountsIndex {
             IsWith self.old self.new key.now.0 (record old { expected = old.expected ++ slot ∷ [] })) }
         ensures err { OnErr result (self.new ≡ self.old) }
     {
-        self.bin.expect(key, slot)
+        let bin = &mut self.bins[bin_of(key)];
+        bin.expect(key, slot)
     }
 
     /// Expects a key to be held in a slot no longer.
@@ -96,7 +108,8 @@ impl AccountsIndex {
         ensures { let old = kept self.old key.now.0 in
             IsWith self.old self.new key.now.0 (record old { expected = without_slot slot old.expected }) }
     {
-        self.bin.unexpect(key, slot);
+        let bin = &mut self.bins[bin_of(key)];
+        bin.unexpect(key, slot);
     }
 
     /// Holds a key in a slot in which it is expected, and expects it there no longer. It takes no memory.
@@ -107,7 +120,8 @@ impl AccountsIndex {
             IsWith self.old self.new key.now.0
             (record old { held = with_slot slot old.held; expected = without_slot slot old.expected }) }
     {
-        self.bin.hold(key, slot);
+        let bin = &mut self.bins[bin_of(key)];
+        bin.hold(key, slot);
     }
 
     /// Holds a key in a slot no longer.
@@ -115,14 +129,16 @@ impl AccountsIndex {
         ensures { let old = kept self.old key.now.0 in
             IsWith self.old self.new key.now.0 (record old { held = without_slot slot old.held }) }
     {
-        self.bin.unhold(key, slot);
+        let bin = &mut self.bins[bin_of(key)];
+        bin.unhold(key, slot);
     }
 
     /// The least key above another, or of all keys, that has a version.
     pub fn key_after(&self, after: Option<&Key>) -> Option<Key>
-        ensures { option_map (λ k. k.0) result ≡ key_after self.now (option_map (λ k. k.now.0) after.entry) }
+        ensures first { option_map (λ k. k.0) result ≡ key_after self.now (option_map (λ k. k.now.0) after.entry) }
+        ensures rise { IsOrdered self.now }
     {
-        self.bin.key_after(after)
+        bins::key_after(&self.bins[start_of(after)..], after)
     }
 
     /// Fills `into` with the first `most` crowded keys above another, or of all keys, rising: those that have two
@@ -130,8 +146,9 @@ impl AccountsIndex {
     pub fn crowded_after(&self, after: Option<&Key>, into: &mut ArrayVec<Key, 256>, most: usize)
         requires empty { into.old.items ≡ [] }
         requires most { most ≤ 256 }
-        ensures { map (λ k. k.0) into.new.items ≡ take most (crowded_after self.now (option_map (λ k. k.now.0) after.entry)) }
+        ensures first { map (λ k. k.0) into.new.items ≡ take most (crowded_after self.now (option_map (λ k. k.now.0) after.entry)) }
+        ensures rise { IsOrdered self.now }
     {
-        self.bin.crowded_after(after, into, most);
+        bins::crowded_after(&self.bins[start_of(after)..], after, into, most);
     }
 }

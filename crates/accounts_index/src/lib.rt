@@ -2,6 +2,7 @@
 #![tactic(auto)]
 
 mod bin;
+mod bins;
 mod edits;
 mod entry;
 mod index;

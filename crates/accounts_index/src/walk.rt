@@ -1,6 +1,6 @@
-ghost use Rattle.std.specs.Prelude.{◌≡◌, ◌≤◌, ◌<◌, [], true, false, nat_lt, length, take, map, find, filter, option_map};
+ghost use Rattle.std.specs.Prelude.{◌≡◌, ◌≤◌, ◌<◌, ◌++◌, true, false, nat_lt, length, take, map, find, filter, option_map};
 ghost use Rattle.std.specs.List.{AllWithin};
-ghost use Rattle.accounts_index.specs.Index.{is_above, is_crowded, key_after, crowded_after};
+ghost use Rattle.accounts_index.specs.Index.{IsOrdered, is_above, is_crowded, key_after, crowded_after};
 ghost use Rattle.accounts_index.specs.Inside.{seen, KeysRise};
 
 use crate::entry::Entry;
@@ -27,14 +27,15 @@ fn start_after(entries: &[Entry], after: Option<&Key>) -> usize
 /// The first key above another that has a version.
 pub fn key_after(entries: &[Entry], after: Option<&Key>) -> Option<Key>
     requires { KeysRise entries.now }
-    ensures { option_map (λ k. k.0) result ≡ key_after (seen entries.now) (option_map (λ k. k.now.0) after.entry) }
+    ensures first { option_map (λ k. k.0) result ≡ key_after (seen entries.now) (option_map (λ k. k.now.0) after.entry) }
+    ensures rise { IsOrdered (seen entries.now) }
 {
     let start = start_after(entries, after);
     first_present(&entries[start..])
 }
 
 fn first_present(entries: &[Entry]) -> Option<Key>
-    ensures { option_map (λ k. k.0) result ≡ option_map (λ e. e.key.0) (find (λ e. nat_lt 0 (length e.list.versions)) entries.now) }
+    ensures { option_map (λ k. k.0) result ≡ option_map (λ e. e.key.0) (find (λ e. nat_lt 0 (length e.lists.value.list.versions)) entries.now) }
 {
     entries
         .iter()
@@ -42,7 +43,7 @@ fn first_present(entries: &[Entry]) -> Option<Key>
         .map(|entry| entry.key)
 }
 
-/// The first `most` crowded keys above another.
+/// Adds crowded keys above another, rising, while `into` has fewer than `most`.
 pub fn crowded_after(
     entries: &[Entry],
     after: Option<&Key>,
@@ -50,18 +51,21 @@ pub fn crowded_after(
     most: usize,
 )
     requires rise { KeysRise entries.now }
-    requires empty { into.old.items ≡ [] }
+    requires few { length into.old.items ≤ most }
     requires most { most ≤ 256 }
-    ensures { map (λ k. k.0) into.new.items ≡ take most (crowded_after (seen entries.now) (option_map (λ k. k.now.0) after.entry)) }
+    ensures first { map (λ k. k.0) into.new.items
+        ≡ take most (map (λ k. k.0) into.old.items ++ crowded_after (seen entries.now) (option_map (λ k. k.now.0) after.entry)) }
+    ensures rise { IsOrdered (seen entries.now) }
 {
     let start = start_after(entries, after);
     first_crowded(&entries[start..], into, most);
 }
 
 fn first_crowded(entries: &[Entry], into: &mut ArrayVec<Key, 256>, most: usize)
-    requires empty { into.old.items ≡ [] }
+    requires few { length into.old.items ≤ most }
     requires most { most ≤ 256 }
-    ensures { map (λ k. k.0) into.new.items ≡ take most (map (λ e. e.key.0) (filter (λ e. is_crowded e.list.versions) entries.now)) }
+    ensures { map (λ k. k.0) into.new.items
+        ≡ take most (map (λ k. k.0) into.old.items ++ map (λ e. e.key.0) (filter (λ e. is_crowded e.lists.value.list.versions) entries.now)) }
 {
     for entry in entries {
         if into.len() == most {

@@ -1,3 +1,4 @@
 pub mod Filters
+mod Lookups
 pub mod Places
 pub mod Newest

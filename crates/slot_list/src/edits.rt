@@ -1,5 +1,6 @@
-ghost use Rattle.std.specs.Prelude.{◌≡◌, ◌+◌, ◌<◌, ◌≤◌, false, OnOk, OnErr, IsOk, IsSome, is_some, vec_len};
+ghost use Rattle.std.specs.Prelude.{◌≡◌, ◌+◌, ◌<◌, ◌≤◌, false, OnOk, OnErr, IsOk, IsSome, is_some, length, vec_len};
 ghost use Rattle.std.specs.Vec.{vec_capacity};
+ghost use Rattle.std.specs.List.{insert};
 ghost use Rattle.std.specs.List.Sorted.{IsStrictlyIncreasing};
 ghost use Rattle.view_sets.specs.Slots.{among};
 ghost use Rattle.slot_list.specs.Versions.{at, put, without, rehomed, with_slot, without_slot, VersionsRise};
@@ -21,8 +22,25 @@ pub fn put_version(versions: &mut Vec<Version>, version: Version) -> Result<(), 
             versions[place] = version;
             Ok(())
         }
-        Err(place) => Ok(versions.insert(place, version)?),
+        Err(place) => insert_version(versions, place, version),
     }
+}
+
+/// A new version at its place. The first one takes the memory of one alone, since most keys have no more.
+fn insert_version(
+    versions: &mut Vec<Version>,
+    place: usize,
+    version: Version,
+) -> Result<(), AllocError>
+    requires { place ≤ length versions.old.items }
+    ensures ok { OnOk result (versions.new.items ≡ insert versions.old.items place version) }
+    ensures err { OnErr result (versions.new.items ≡ versions.old.items) }
+{
+    if versions.is_empty() {
+        versions.reserve_exact(1)?;
+    }
+    versions.insert(place, version)?;
+    Ok(())
 }
 
 /// Takes the version of a slot out, and says whether there was one.

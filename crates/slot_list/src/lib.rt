@@ -2,11 +2,13 @@
 #![tactic(auto)]
 
 mod edits;
+mod laws;
 mod list;
 mod search;
 #[cfg(test)]
 mod tests;
 
+pub use laws::lookups_follow_edits;
 pub use list::SlotList;
 
 /// Where the account of a version is.

@@ -14,34 +14,40 @@ returns-in_err-room-in-Ok-clause-err c =
     let es = c.args.entries.now.items in
     let key = c.args.key.now.0 in
     let found = rw c.deref.ensures.value at c.in-Ok.ensures.found in
-    let e = c.index_mut-entry.result.now in
-    let read = c.index_mut-entry.ensures.value in
-    let now : Entry = record { key = e.key; list = c.room.new.self; expected = e.expected } in
-    let same : kept_of now ≡ kept_of e = λ j. record { versions = c.room.ensures.versions j; held = c.room.ensures.held j; expected = e.expected.items } in
-    on_err_any c.from_residual.result (seen_same es c.in-Ok.place e now found.in_range read refl same)
+    let e = c.index_mut.result.now in
+    let read = c.index_mut.ensures.value in
+    let lists = c.deref_mut-lists.result.now in
+    let inside = c.deref_mut-lists.ensures.value in
+    let now : Entry = record e { lists = record e.lists { value = record lists { list = c.room.new.self } } } in
+    let same : kept_of now.lists.value ≡ kept_of lists = λ j. record { versions = c.room.ensures.versions j; held = c.room.ensures.held j; expected = lists.expected.items } in
+    on_err_any c.from_residual.result (seen_same es c.in-Ok.place e now found.in_range read refl (same ∙ ap kept_of inside))
 
 pub returns-in_err-push-in-Ok-clause-err : goal.returns-in_err-push-in-Ok-clause-err
 returns-in_err-push-in-Ok-clause-err c =
     let es = c.args.entries.now.items in
     let key = c.args.key.now.0 in
     let found = rw c.deref.ensures.value at c.in-Ok.ensures.found in
-    let e = c.index_mut-entry.result.now in
-    let read = c.index_mut-entry.ensures.value in
-    let now : Entry = record { key = e.key; list = c.room.new.self; expected = c.push.new.self } in
-    let same : kept_of now ≡ kept_of e = λ j. record { versions = c.room.ensures.versions j; held = c.room.ensures.held j; expected = c.in_err-push-in-Ok.ensures.items j } in
-    on_err_any c.from_residual-in_err-push-in-Ok.result (seen_same es c.in-Ok.place e now found.in_range read refl same)
+    let e = c.index_mut.result.now in
+    let read = c.index_mut.ensures.value in
+    let lists = c.deref_mut-lists.result.now in
+    let inside = c.deref_mut-lists.ensures.value in
+    let now : Entry = record e { lists = record e.lists { value = record lists { list = c.room.new.self; expected = c.push.new.self } } } in
+    let same : kept_of now.lists.value ≡ kept_of lists = λ j. record { versions = c.room.ensures.versions j; held = c.room.ensures.held j; expected = c.in_err-push-in-Ok.ensures.items j } in
+    on_err_any c.from_residual-in_err-push-in-Ok.result (seen_same es c.in-Ok.place e now found.in_range read refl (same ∙ ap kept_of inside))
 
 pub returns-in_ok-push-in-Ok-clause-ok : goal.returns-in_ok-push-in-Ok-clause-ok
 returns-in_ok-push-in-Ok-clause-ok c =
     let es = c.args.entries.now.items in
     let key = c.args.key.now.0 in
     let found = rw c.deref.ensures.value at c.in-Ok.ensures.found in
-    let e = c.index_mut-entry.result.now in
-    let read = c.index_mut-entry.ensures.value in
-    let now : Entry = record { key = e.key; list = c.room.new.self; expected = c.push.new.self } in
+    let e = c.index_mut.result.now in
+    let read = c.index_mut.ensures.value in
+    let lists = c.deref_mut-lists.result.now in
+    let inside = c.deref_mut-lists.ensures.value in
+    let now : Entry = record e { lists = record e.lists { value = record lists { list = c.room.new.self; expected = c.push.new.self } } } in
     IsWith-to _ _ key _ _ (IsWith-write es key c.in-Ok.place found e read now refl)
     ((λ j. record { versions = c.room.ensures.versions j; held = c.room.ensures.held j; expected = c.in_ok-push-in-Ok.ensures.items j })
-    ∙ ap (λ (k : Kept). record k { expected = k.expected ++ c.args.slot ∷ [] }) (sym (read_kept es key c.in-Ok.place found e read)))
+    ∙ ap (λ (k : Kept). record k { expected = k.expected ++ c.args.slot ∷ [] }) (sym (read_kept es key c.in-Ok.place found e read lists inside)))
 
 -- ---- the key is not there
 

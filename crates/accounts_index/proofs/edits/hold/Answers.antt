@@ -14,44 +14,52 @@ hold-requires-clause-room c =
     let es = c.args.entries.now.items in
     let key = c.args.key.now.0 in
     let found = rw c.deref.ensures.value at c.in-Ok.ensures.found in
-    let e = c.index_mut-entry.result.now in
-    let read = c.index_mut-entry.ensures.value in
-    let expected = rw (read_kept es key c.in-Ok.place found e read) at c.requires.expected in
-    omega (arith, without_there c.args.slot e.expected.items expected, read_room es key c.in-Ok.place found e read c.requires.entries)
+    let e = c.index_mut.result.now in
+    let read = c.index_mut.ensures.value in
+    let lists = c.deref_mut-lists.result.now in
+    let inside = c.deref_mut-lists.ensures.value in
+    let expected = rw (read_kept es key c.in-Ok.place found e read lists inside) at c.requires.expected in
+    omega (arith, without_there c.args.slot lists.expected.items expected, read_room es key c.in-Ok.place found e read lists inside c.requires.entries)
 
 pub hold-requires-clause-absent : goal.hold-requires-clause-absent
 hold-requires-clause-absent c =
     let es = c.args.entries.now.items in
     let key = c.args.key.now.0 in
     let found = rw c.deref.ensures.value at c.in-Ok.ensures.found in
-    let e = c.index_mut-entry.result.now in
-    let read = c.index_mut-entry.ensures.value in
-    rw (read_kept es key c.in-Ok.place found e read) at c.requires.absent
+    let e = c.index_mut.result.now in
+    let read = c.index_mut.ensures.value in
+    let lists = c.deref_mut-lists.result.now in
+    let inside = c.deref_mut-lists.ensures.value in
+    rw (read_kept es key c.in-Ok.place found e read lists inside) at c.requires.absent
 
 pub returns-clause-kept : goal.returns-clause-kept
 returns-clause-kept c =
     let es = c.args.entries.now.items in
     let key = c.args.key.now.0 in
     let found = rw c.deref.ensures.value at c.in-Ok.ensures.found in
-    let e = c.index_mut-entry.result.now in
-    let read = c.index_mut-entry.ensures.value in
-    let now : Entry = record { key = e.key; list = c.hold.new.self; expected = c.forget.new.slots } in
-    let made = ap (λ (l : KeySlots). kept_of (record { key = e.key; list = l; expected = c.forget.new.slots })) c.hold.ensures in
-    let left = ap (λ (x : List _). record { versions = e.list.versions; held = with_slot c.args.slot e.list.held; expected = x }) c.forget.ensures in
+    let e = c.index_mut.result.now in
+    let read = c.index_mut.ensures.value in
+    let lists = c.deref_mut-lists.result.now in
+    let inside = c.deref_mut-lists.ensures.value in
+    let now : Entry = record e { lists = record e.lists { value = record lists { list = c.hold.new.self; expected = c.forget.new.slots } } } in
+    let made = ap (λ (l : KeySlots). kept_of (record lists { list = l; expected = c.forget.new.slots })) c.hold.ensures in
+    let left = ap (λ (x : List _). record { versions = lists.list.versions; held = with_slot c.args.slot lists.list.held; expected = x }) c.forget.ensures in
     IsWith-to _ _ key _ _ (IsWith-write es key c.in-Ok.place found e read now refl)
-    (made ∙ left ∙ ap (λ (k : Kept). record k { held = with_slot c.args.slot k.held; expected = without_slot c.args.slot k.expected }) (sym (read_kept es key c.in-Ok.place found e read)))
+    (made ∙ left ∙ ap (λ (k : Kept). record k { held = with_slot c.args.slot k.held; expected = without_slot c.args.slot k.expected }) (sym (read_kept es key c.in-Ok.place found e read lists inside)))
 
 pub returns-clause-entries : goal.returns-clause-entries
 returns-clause-entries c =
     let es = c.args.entries.now.items in
     let key = c.args.key.now.0 in
     let found = rw c.deref.ensures.value at c.in-Ok.ensures.found in
-    let e = c.index_mut-entry.result.now in
-    let read = c.index_mut-entry.ensures.value in
-    let expected = rw (read_kept es key c.in-Ok.place found e read) at c.requires.expected in
-    let now : Entry = record { key = e.key; list = c.hold.new.self; expected = c.forget.new.slots } in
-    let room : HasRoom now = omega (arith, ap (λ (l : KeySlots). l.spare) c.hold.ensures, ap length c.forget.ensures, without_there c.args.slot e.expected.items expected, read_room es key c.in-Ok.place found e read c.requires.entries) in
-    let used : IsUsed now = omega (arith, ap (λ (l : KeySlots). length l.held) c.hold.ensures, some_with (filter (λ s. ltb s c.args.slot) e.list.held) (filter (λ s. ltb c.args.slot s) e.list.held) c.args.slot) in
+    let e = c.index_mut.result.now in
+    let read = c.index_mut.ensures.value in
+    let lists = c.deref_mut-lists.result.now in
+    let inside = c.deref_mut-lists.ensures.value in
+    let expected = rw (read_kept es key c.in-Ok.place found e read lists inside) at c.requires.expected in
+    let now : Entry = record e { lists = record e.lists { value = record lists { list = c.hold.new.self; expected = c.forget.new.slots } } } in
+    let room : HasRoom now.lists.value = omega (arith, ap (λ (l : KeySlots). l.spare) c.hold.ensures, ap length c.forget.ensures, without_there c.args.slot lists.expected.items expected, read_room es key c.in-Ok.place found e read lists inside c.requires.entries) in
+    let used : IsUsed now.lists.value = omega (arith, ap (λ (l : KeySlots). length l.held) c.hold.ensures, some_with (filter (λ s. ltb s c.args.slot) lists.list.held) (filter (λ s. ltb c.args.slot s) lists.list.held) c.args.slot) in
     AreEntries-write es key c.in-Ok.place found e read now refl c.requires.entries room used
 
 -- the key is there

@@ -1,0 +1,68 @@
+ghost use Rattle.std.specs.Prelude.{◌≡◌, ◌≤◌, ◌<◌, ◌++◌, [], length, take, map, option_map, All, IfOk};
+ghost use Rattle.accounts_index.specs.Bins.{bin_of, start_of, joined};
+ghost use Rattle.accounts_index.specs.Index.{key_after, crowded_after};
+
+use crate::bin::Bin;
+use adb_model::Key;
+use arrayvec::ArrayVec;
+use std::alloc::{AllocError, Global};
+
+/// The number of bins, one for each first byte of a key.
+const BINS: usize = 256;
+
+/// The bins of an index without keys.
+pub fn empty_bins(alloc: Global) -> Result<Vec<Bin>, AllocError>
+    ensures every { IfOk result (λ bins. length bins.items ≡ 256) }
+    ensures empty { IfOk result (λ bins. All (λ bin. bin ≡ []) bins.items) }
+{
+    let mut bins = Vec::with_capacity(alloc, BINS)?;
+    for _ in 0..BINS {
+        bins.push(Bin::new(alloc))?;
+    }
+    Ok(bins)
+}
+
+/// The number of a key's bin.
+pub fn bin_of(key: &Key) -> usize
+    ensures number { result ≡ bin_of key.now.0 }
+    ensures within { result < 256 }
+{
+    usize::from(key.0[0])
+}
+
+/// The number of the first bin that may have a key above another.
+pub fn start_of(after: Option<&Key>) -> usize
+    ensures number { result ≡ start_of (option_map (λ k. k.now.0) after.entry) }
+    ensures within { result < 256 }
+{
+    match after {
+        Some(key) => bin_of(key),
+        None => 0,
+    }
+}
+
+/// The first key above another that has a version.
+pub fn key_after(bins: &[Bin], after: Option<&Key>) -> Option<Key>
+    ensures { option_map (λ k. k.0) result ≡ key_after (joined bins.now) (option_map (λ k. k.now.0) after.entry) }
+{
+    for bin in bins {
+        if let Some(key) = bin.key_after(after) {
+            return Some(key);
+        }
+    }
+    None
+}
+
+/// The first `most` crowded keys above another.
+pub fn crowded_after(bins: &[Bin], after: Option<&Key>, into: &mut ArrayVec<Key, 256>, most: usize)
+    requires empty { into.old.items ≡ [] }
+    requires most { most ≤ 256 }
+    ensures { map (λ k. k.0) into.new.items ≡ take most (crowded_after (joined bins.now) (option_map (λ k. k.now.0) after.entry)) }
+{
+    for bin in bins {
+        if into.len() == most {
+            return;
+        }
+        bin.crowded_after(after, into, most);
+    }
+}
