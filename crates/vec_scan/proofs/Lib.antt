@@ -1,4 +1,5 @@
 pub mod Forwards
+pub mod Known
 pub mod Located
 pub mod OneReading
 pub mod Padding

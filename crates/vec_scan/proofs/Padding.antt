@@ -62,7 +62,7 @@ padded_rows image zeros (last ∷ before) fill is =
     ]
 
 -- each row is read, whatever stands before the first and after the last
-rows_read : RecordsStand → (front bytes behind : List ℕ) (rows : List Placed) → ImageFrom (length front) bytes rows → AllByRecursion (λ row. placed_at (front ++ (bytes ++ behind)) row.offset ≡ row) rows
+pub rows_read : RecordsStand → (front bytes behind : List ℕ) (rows : List Placed) → ImageFrom (length front) bytes rows → AllByRecursion (λ row. placed_at (front ++ (bytes ++ behind)) row.offset ≡ row) rows
 rows_read law front bytes behind [] from = tt
 rows_read law front bytes behind (row ∷ rows) from =
     let b = from.0 in

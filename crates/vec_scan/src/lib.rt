@@ -15,7 +15,7 @@ mod sealed;
 
 pub use fault::LayoutFault;
 pub use laws::{images_have_one_reading, written_images_are_read};
-pub use sealed::{Sealed, seal};
+pub use sealed::{Sealed, seal, seal_written};
 
 #[cfg(test)]
 mod tests;

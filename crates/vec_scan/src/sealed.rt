@@ -1,14 +1,16 @@
 // A sealed image.
 ghost use Rattle.std.specs.Prelude.{◌≡◌, ◌%◌, ◌⊎◌, List, Ok, IsSome, Some, IfOk, IfErr, IfSome, MatchResult, IsErrAnd, length, find, nat_le};
 ghost use Rattle.std.specs.List.Sorted.{IsStrictlyIncreasing};
+ghost use Rattle.adb_model.specs.State.{Row};
 ghost use Rattle.account_layout.specs.Reading as reading;
 ghost use Rattle.vec_scan.specs.Fault.{HasFault};
 ghost use Rattle.vec_scan.specs.Image.{HasImage, IsImage, Placed};
 ghost use Rattle.vec_scan.specs.Seal.{Seals, next_offset, offsets_of, placed, row_at};
+ghost use Rattle.vec_scan.specs.Written.{IsWritten, written_rows};
 
 use crate::fault::LayoutFault;
 use crate::scan::{gap_len, scan};
-use account_layout::{Record, read_record, records_are_read};
+use account_layout::{Record, read_record, records_are_read, written_records_are_read};
 use adb_model::Slot;
 use std::alloc::Global;
 use std::marker::Model;
@@ -75,6 +77,23 @@ pub fn seal(
         bytes,
         offsets,
     })
+}
+
+/// Seals an image that was written, with the offsets of its records, which its writer knows: no record is
+/// read, and nothing is copied.
+pub fn seal_written(slot: Slot, id: u64, bytes: Vec<u8>, offsets: Vec<usize>) -> Sealed
+    requires { (rows : List Row) × IsWritten rows bytes.items offsets.items }
+    ensures { (rows : List Row) → IsWritten rows bytes.items offsets.items
+        → result ≡ record { slot = slot; id = id; bytes = bytes.items; rows = written_rows 0 rows } }
+{
+    written_records_are_read();
+    records_are_read();
+    Sealed {
+        slot,
+        id,
+        bytes,
+        offsets,
+    }
 }
 
 impl Sealed {

@@ -1,0 +1,12 @@
+//! Append vectors: images of storages, filled with accounts.
+//!
+//! An image has each account's record once, written into its place, and is sealed without being read again.
+//! `specs/Filled.antt` says what a filled image has.
+#![tactic(auto)]
+
+mod filling;
+
+pub use filling::{Filled, fill};
+
+#[cfg(test)]
+mod tests;
