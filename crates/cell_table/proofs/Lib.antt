@@ -1,0 +1,4 @@
+pub mod Padded
+pub mod Changes
+pub mod Sound
+pub mod Grown

@@ -1,0 +1,11 @@
+//! The storages of each slot: the one in use, and the one that is being filled.
+#![tactic(auto)]
+
+mod entry;
+mod map;
+mod slots;
+#[cfg(test)]
+mod tests;
+
+pub use entry::Live;
+pub use map::StorageMap;
