@@ -1,0 +1,7 @@
+-- What the fields of a book are to contracts.
+use Rattle.book_parts.specs.Parts.{Parts}
+use Rattle.book.specs.declared.book.Book.TheInside.{Inside}
+
+-- the fields as parts
+abbrev pub seen : Inside → Parts
+seen b = record { index = b.index; cache = b.cache; roots = b.roots; cleaned = b.cleaned; budget = b.budget; next_id = b.next_id }

@@ -1,0 +1,43 @@
+-- The machine's reply for what a call answered; for want of memory there is none.
+use Rattle.std.specs.Prelude.{ℕ, Option, Some, None, Result, Ok, Err}
+use Rattle.adb_model.specs.Call as machine
+use Rattle.adb_model.specs.Call.{Reply, Done, Refused, Purged, NotFound}
+use Rattle.book.specs.declared.refusals.StoreRefusal.{StoreRefusal}
+use Rattle.book.specs.declared.refusals.StoreRefusal.TheVariants as stores
+use Rattle.book.specs.declared.refusals.RootRefusal.{RootRefusal}
+use Rattle.book.specs.declared.refusals.RootRefusal.TheVariants as roots
+use Rattle.book.specs.declared.refusals.Rooted.{Rooted}
+use Rattle.book.specs.declared.refusals.LoadRefusal.{LoadRefusal}
+use Rattle.book.specs.declared.refusals.LoadRefusal.TheVariants as loads
+use Rattle.book.specs.declared.loading.Found.{Found}
+use Rattle.book.specs.declared.loading.FoundAt.{FoundAt}
+use Rattle.book.specs.declared.loading.FoundAt.TheVariants.{Cached}
+
+-- to a store
+abbrev pub store_reply : {U : Type 0} → Result U StoreRefusal → Option Reply
+store_reply (Ok u) = Some Done
+store_reply (Err (stores.SlotRooted slot newest)) = Some (Refused (machine.SlotRooted slot newest))
+store_reply (Err stores.NoMemory) = None
+
+-- to a slot that was to become a root
+abbrev pub root_reply : {U : Type 0} → Result U RootRefusal → Option Reply
+root_reply (Ok u) = Some Done
+root_reply (Err (roots.RootOrder slot newest)) = Some (Refused (machine.RootOrder slot newest))
+root_reply (Err roots.NoMemory) = None
+
+-- to a purge, which wants no memory
+abbrev pub purge_reply : Result ℕ Rooted → Reply
+purge_reply (Ok keys) = Purged keys
+purge_reply (Err rooted) = Refused (machine.Rooted rooted.slot)
+
+-- to a load that found a version: where it stands, and its account
+abbrev pub found_at : ℕ → FoundAt → Reply
+found_at slot (Cached account) = machine.Found slot machine.Cached account.value
+
+-- to a load
+abbrev pub load_reply : Result (Option Found) LoadRefusal → Option Reply
+load_reply (Ok None) = Some NotFound
+load_reply (Ok (Some found)) = Some (found_at found.slot found.at)
+load_reply (Err (loads.ViewTooOld max_root cleaned)) = Some (Refused (machine.ViewTooOld max_root cleaned))
+load_reply (Err (loads.TooManyPins most)) = Some (Refused (machine.TooManyPins most))
+load_reply (Err loads.NoMemory) = None

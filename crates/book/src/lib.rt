@@ -1,0 +1,17 @@
+//! The book: the store's parts for one thread, each call one event of the plain machine.
+//!
+//! Bodies call laws of the crates below: functions that do nothing, by whose call a proof learns the law.
+#![tactic(auto)]
+
+mod book;
+mod loading;
+mod purging;
+mod refusals;
+mod rooting;
+mod storing;
+#[cfg(test)]
+mod tests;
+
+pub use book::Book;
+pub use loading::{Found, FoundAt};
+pub use refusals::{LoadRefusal, RootRefusal, Rooted, StoreRefusal};

@@ -1,0 +1,195 @@
+use crate::{Book, Found, FoundAt, RootRefusal, Rooted, StoreRefusal};
+use adb_model::{Account, Key, View};
+use book_parts::pins_are_held;
+use pass_pins::PassPins;
+use std::alloc::Global;
+use std::sync::Arc;
+use std::test::Fail;
+
+// What is asked; a load is at a view of one fork's slot, or of none, and the roots up to another slot.
+#[derive(Clone, Copy, Debug)]
+enum Ask {
+    Store(u64, u8, u64),
+    Root(u64),
+    Purge(u64),
+    Load(Option<u64>, u64, u8),
+    Cached,
+    KeyAfter(Option<u8>),
+}
+
+// What is answered; an account is told by its lamports.
+#[derive(Clone, Copy, Debug, PartialEq, Eq)]
+enum Answer {
+    Done,
+    NotAbove(u64, u64),
+    IsRoot(u64),
+    Count(u64),
+    Nothing,
+    Found(u64, u64),
+    Key(u8),
+}
+
+const ALL: u64 = u64::MAX;
+
+fn key(first: u8) -> Key {
+    let mut bytes = [0; 32];
+    bytes[0] = first;
+    Key(bytes)
+}
+
+fn account(alloc: Global, lamports: u64) -> Result<Arc<Account>, Fail> {
+    match Account::new(lamports, [7; 32], true, 9, Vec::new(alloc)) {
+        Ok(account) => Ok(Arc::new(alloc, account)?),
+        Err(_) => Err("too long")?,
+    }
+}
+
+// What a pass without pins is answered.
+fn loaded(
+    alloc: Global,
+    book: &mut Book,
+    fork: Option<u64>,
+    max_root: u64,
+    first: u8,
+) -> Result<Answer, Fail> {
+    let view = match fork {
+        Some(slot) => View::new(alloc, &[slot], max_root)?,
+        None => View::new(alloc, &[], max_root)?,
+    };
+    let mut pins = PassPins::new(3);
+    book.has_history();
+    pins_are_held();
+    match book.load(&mut pins, &view, &key(first)) {
+        Ok(
+            Some(
+                Found {
+                    slot,
+                    at: FoundAt::Cached(account),
+                },
+            ),
+        ) => Ok(Answer::Found(slot, account.head().lamports)),
+        Ok(None) => Ok(Answer::Nothing),
+        Err(_) => Err("refused")?,
+    }
+}
+
+fn answered(alloc: Global, book: &mut Book, ask: Ask) -> Result<Answer, Fail> {
+    match ask {
+        Ask::Store(slot, first, lamports) => {
+            let account = account(alloc, lamports)?;
+            match book.store(slot, key(first), account) {
+                Ok(()) => Ok(Answer::Done),
+                Err(StoreRefusal::SlotRooted { slot, newest }) => Ok(Answer::NotAbove(
+                    slot, newest,
+                )),
+                Err(StoreRefusal::NoMemory) => Err("memory")?,
+            }
+        }
+        Ask::Root(slot) => match book.root(slot) {
+            Ok(()) => Ok(Answer::Done),
+            Err(RootRefusal::RootOrder { slot, newest }) => Ok(Answer::NotAbove(slot, newest)),
+            Err(RootRefusal::NoMemory) => Err("memory")?,
+        },
+        Ask::Purge(slot) => match book.purge(slot) {
+            Ok(keys) => Ok(Answer::Count(keys)),
+            Err(Rooted { slot }) => Ok(Answer::IsRoot(slot)),
+        },
+        Ask::Load(fork, max_root, first) => loaded(alloc, book, fork, max_root, first),
+        Ask::Cached => Ok(Answer::Count(book.stats().cached)),
+        Ask::KeyAfter(after) => match book.key_after(after.map(key).as_ref()) {
+            Some(key) => Ok(Answer::Key(key.0[0])),
+            None => Ok(Answer::Nothing),
+        },
+    }
+}
+
+// Each row begins with a new book.
+#[test]
+fn a_book_answers_as_the_rows_say(rt: HostRuntime) -> Result<(), Fail> {
+    let alloc = rt.alloc();
+    let rows = [
+        [
+            (Ask::Store(5, 1, 100), Answer::Done),
+            (Ask::Load(Some(5), ALL, 1), Answer::Found(5, 100)),
+            (Ask::Load(None, ALL, 1), Answer::Nothing),
+            (Ask::Root(5), Answer::Done),
+            (Ask::Load(None, ALL, 1), Answer::Found(5, 100)),
+        ]
+        .as_slice(),
+        [
+            (Ask::Store(4, 1, 40), Answer::Done),
+            (Ask::Store(7, 1, 70), Answer::Done),
+            (Ask::Root(7), Answer::Done),
+            (Ask::Load(Some(4), ALL, 1), Answer::Found(7, 70)),
+            (Ask::Load(Some(4), 6, 1), Answer::Found(4, 40)),
+        ]
+        .as_slice(),
+        [
+            (Ask::Store(5, 2, 1), Answer::Done),
+            (Ask::Store(5, 2, 2), Answer::Done),
+            (Ask::Load(Some(5), ALL, 2), Answer::Found(5, 2)),
+            (Ask::Store(5, 2, 0), Answer::Done),
+            (Ask::Load(Some(5), ALL, 2), Answer::Nothing),
+            (Ask::Cached, Answer::Count(1)),
+        ]
+        .as_slice(),
+        [
+            (Ask::Root(7), Answer::Done),
+            (Ask::Root(7), Answer::NotAbove(7, 7)),
+            (Ask::Store(7, 1, 1), Answer::NotAbove(7, 7)),
+            (Ask::Store(6, 1, 1), Answer::NotAbove(6, 7)),
+            (Ask::Store(8, 1, 1), Answer::Done),
+        ]
+        .as_slice(),
+        [
+            (Ask::Store(5, 1, 9), Answer::Done),
+            (Ask::Purge(5), Answer::Count(1)),
+            (Ask::Load(Some(5), ALL, 1), Answer::Nothing),
+            (Ask::Purge(5), Answer::Count(0)),
+            (Ask::Store(5, 1, 3), Answer::Done),
+            (Ask::Load(Some(5), ALL, 1), Answer::Found(5, 3)),
+            (Ask::Root(5), Answer::Done),
+            (Ask::Purge(5), Answer::IsRoot(5)),
+        ]
+        .as_slice(),
+        [
+            (Ask::Store(5, 1, 1), Answer::Done),
+            (Ask::Store(5, 2, 2), Answer::Done),
+            (Ask::Store(5, 1, 3), Answer::Done),
+            (Ask::Store(6, 9, 0), Answer::Done),
+            (Ask::Cached, Answer::Count(3)),
+            (Ask::KeyAfter(None), Answer::Key(1)),
+            (Ask::KeyAfter(Some(2)), Answer::Key(9)),
+            (Ask::KeyAfter(Some(9)), Answer::Nothing),
+            (Ask::Purge(5), Answer::Count(2)),
+            (Ask::KeyAfter(None), Answer::Key(9)),
+        ]
+        .as_slice(),
+    ];
+    for row in rows {
+        let mut book = Book::new(alloc, 408, 1)?;
+        for (ask, expected) in row {
+            let answer = answered(alloc, &mut book, *ask)?;
+            assert_eq!(rt; answer, *expected, "{ask:?}");
+        }
+    }
+    Ok(())
+}
+
+#[test]
+fn a_book_lets_go_of_what_it_no_longer_needs(rt: HostRuntime) -> Result<(), Fail> {
+    let alloc = rt.alloc();
+    let mut book = Book::new(alloc, 408, 1)?;
+    let mut stored_over = account(alloc, 1)?;
+    let mut purged = account(alloc, 2)?;
+    let mut kept = account(alloc, 3)?;
+    book.store(1, key(1), stored_over.clone()?)?;
+    book.store(2, key(1), purged.clone()?)?;
+    book.store(3, key(1), kept.clone()?)?;
+    book.store(1, key(1), account(alloc, 4)?)?;
+    assert_eq!(rt; book.purge(2), Ok(1));
+    assert!(rt; Arc::get_mut(&mut stored_over).is_some());
+    assert!(rt; Arc::get_mut(&mut purged).is_some());
+    assert!(rt; Arc::get_mut(&mut kept).is_none());
+    Ok(())
+}

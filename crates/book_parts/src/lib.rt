@@ -1,0 +1,13 @@
+//! What a book of accounts is made of, and the laws by which its parts follow the plain machine.
+//!
+//! A book is to contracts the record of its parts. The parts reflect a state of the machine where each look
+//! into them finds what the state says, and stand for a history where they reflect the state after it. Each
+//! law takes one call of a book: from what the call did to the parts it tells for which history they stand then.
+#![tactic(auto)]
+
+mod laws;
+
+pub use laws::{
+    load_stands, new_parts_stand, next_key_stands, pins_are_held, purge_stands, root_stands,
+    stats_stand, step_stands, store_stands,
+};
