@@ -22,7 +22,7 @@ line_ends (Err e) a b k k' line ok err cause = record { front = err; whole = λ 
 
 -- a journal that was taken whole was taken in part
 all_cut : (a b c : Option (List ℕ)) → Keeps b c → (lines : List Line) → PlayedAll a b lines → CutShort a c lines
-all_cut a b c keep lines (to, p) = record {
+all_cut a b c keep lines p = record {
   first = lines;
   rest = [];
   split = sym (append-nil lines);

@@ -78,6 +78,26 @@ fn scripts_have_these_journals(rt: HostRuntime) -> Result<(), Fail> {
             "1 store 5 02 1 00 0 0 - = ok\n1 store 5 02 0 00 0 0 - = ok\n1 load 5@all 02 = none\n",
         ),
         (
+            "a tomb, whatever its other words say",
+            "1 store 5 02 2\n1 store 5 02 0 aa 1 9 ff\n1 get 5@all 02\n",
+            "1 store 5 02 2 00 0 0 - = ok\n1 store 5 02 0 00 0 0 - = ok\n1 load 5@all 02 = none\n",
+        ),
+        (
+            "purges of an empty slot, of one with an account, and of a root",
+            "1 store 5 01 9\n1 purge 5\n1 get 5@all 01\n1 purge 5\n1 store 5 01 3\n1 get 5@all 01\n1 root 5\n1 purge 5\n",
+            "1 store 5 01 9 00 0 0 - = ok\n1 purge 5 = ok 1\n1 load 5@all 01 = none\n1 purge 5 = ok 0\n1 store 5 01 3 00 0 0 - = ok\n1 load 5@all 01 = some 5 cached 3 00 0 0 -\n1 root 5 = ok\n1 purge 5 = rooted 5\n",
+        ),
+        (
+            "counts of what two lanes stored",
+            "1 store 5 01 1\n2 store 5 02 2\n1 store 5 01 3\n1 stats\n",
+            "1 store 5 01 1 00 0 0 - = ok\n2 store 5 02 2 00 0 0 - = ok\n1 store 5 01 3 00 0 0 - = ok\n1 stats = cached 2 filling 0 live 0 retired 0 named 0 rows 0 bytes 0 pins 0\n",
+        ),
+        (
+            "every word of a store, and a load that is its own journal line",
+            "064 store 5 01 7 aAbB 1 9 33*ab = ok\n64 load 5@6 01 = none\n",
+            "64 store 5 01 7 aabb 1 9 33*ab = ok\n64 load 5@6 01 = some 5 cached 7 aabb 1 9 33*ab\n",
+        ),
+        (
             "roots out of order, and stores at and below the newest root",
             "1 root 7\n1 root 7\n1 store 7 01 1\n1 store 6 01 1\n1 store 8 01 1\n",
             "1 root 7 = ok\n1 root 7 = root-order 7 7\n1 store 7 01 1 00 0 0 - = slot-rooted 7 7\n1 store 6 01 1 00 0 0 - = slot-rooted 6 7\n1 store 8 01 1 00 0 0 - = ok\n",
@@ -109,8 +129,14 @@ fn scripts_have_these_journals(rt: HostRuntime) -> Result<(), Fail> {
 #[test]
 fn what_is_no_script_is_refused_whole(rt: HostRuntime) -> Result<(), Fail> {
     let table = [
-        "1 purge 5",
-        "2 root 5",
+        "0 root 5",
+        "65 root 5",
+        "1 purge",
+        "1 stats 5",
+        "1 store 5 01 1 0",
+        "1 store 5 01 1 00 2",
+        "1 store 5 01 0 00 0 0 abc",
+        "1 store 5 01 0 00 0 0 10485761*ab",
         "1 root",
         "1 root 5 6",
         "1 root 18446744073709551616",

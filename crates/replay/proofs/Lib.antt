@@ -1,6 +1,7 @@
-pub mod Lists
-pub mod Loads
+pub mod Lanes
 pub mod Streams
 pub mod Histories
-pub mod LineCalls
 pub mod Turns
+pub mod LineCalls
+pub mod Steps
+pub mod Scripts

@@ -1,14 +1,18 @@
--- The lines that were played, and the line at hand.
-use Rattle.std.proofs.Common.{◌≡◌, ℕ, suc, ◌+◌, ◌<◌, ◌≤◌, List, [], ◌∷◌, ◌++◌, length, take, drop, get_or, map, Option, refl, sym, ap, subst, ◌∙◌, add-one}
+-- What was made of a list so far, and the element at hand.
+use Rattle.std.proofs.Common.{◌≡◌, ℕ, suc, ◌+◌, ◌<◌, ◌≤◌, List, [], ◌∷◌, ◌++◌, length, take, drop, get_or, map, Option, Result, Ok, Err, OnErr, OnOk, Some, refl, sym, ap, subst, ◌∙◌, add-one, append_assoc}
 use Rattle.std.proofs.Math.Seq.{drop-cons}
-use Rattle.std.proofs.lemmas.List.{take-append-drop, take_more, map_push, take_all}
+use Rattle.std.proofs.lemmas.List.{take-append-drop, take_more, map_push, take_all, append-nil}
 use Rattle.adb_model.specs.State.{State}
+use Rattle.adb_model.specs.Call as machine
 use Rattle.adb_model.specs.Plays.{Line}
+use Rattle.adb_model.specs.Seen.{call_of, reply_of}
+use Rattle.adb_model.specs.declared.call.Call.{Call}
+use Rattle.adb_model.specs.declared.call.Reply.{Reply}
 use Rattle.script.specs.declared.line.Line as code
 use Rattle.script.specs.Seen.{line_seen}
-use Rattle.replay.specs.Plain.{start}
-use Rattle.replay.specs.Journaled.{Played, PlayedInPart, CutShort}
-use Rattle.replay.proofs.Histories.{played_more, cut_here}
+use Rattle.book_parts.specs.Stands.{with_event}
+use Rattle.replay.specs.Standing.{Lanes, PlayerStands, asked, HasMade, HasMadeFirst}
+use Rattle.replay.specs.Journaled.{PlayedInPart, CutShort}
 
 take_one : {X : Type 0} (xs : List X) (i : ℕ) (x : X) → i < length xs → x ≡ get_or xs i x → take (i + 1) xs ≡ take i xs ++ x ∷ []
 take_one xs i x lt is = take_more xs i x lt ∙ ap (λ (y : _). take i xs ++ y ∷ []) (sym is)
@@ -22,21 +26,74 @@ map_over : {X Y : Type 0} (f : X → Y) (xs ys : List X) → map f (xs ++ ys) �
 map_over f [] ys = refl
 map_over f (x ∷ xs) ys = ap (λ (l : List _). f x ∷ l) (map_over f xs ys)
 
--- one more line was played
-pub one_more : (a b c : Option (List ℕ)) (xs : List code.Line) (i : ℕ) (x : code.Line) (m n : State) → i < length xs → x ≡ get_or xs i x
-    → Played start m a b (map line_seen (take i xs)) → Played m n b c (line_seen x ∷ []) → Played start n a c (map line_seen (take (i + 1) xs))
-one_more a b c xs i x m n lt is p q =
-    let lines : map line_seen (take i xs) ++ line_seen x ∷ [] ≡ map line_seen (take (i + 1) xs) = sym (ap (λ (l : List code.Line). map line_seen l) (take_one xs i x lt is) ∙ map_push line_seen (take i xs) x) in
-    subst (λ (l : List Line). Played start n a c l) lines (played_more start m n a b c _ _ p q)
+module _ {X Y : Type 0} (f : X → Y) (xs : List X) (i : ℕ) (x : X) where
+  -- one more element
+  pub mapped_more : i < length xs → x ≡ get_or xs i x → map f (take i xs) ++ f x ∷ [] ≡ map f (take (i + 1) xs)
+  mapped_more lt is = sym (ap (λ (l : List X). map f l) (take_one xs i x lt is) ∙ map_push f (take i xs) x)
+
+  -- the element at hand, and those after it
+  pub mapped_split : i < length xs → x ≡ get_or xs i x → map f xs ≡ (map f (take i xs) ++ f x ∷ []) ++ map f (drop (i + 1) xs)
+  mapped_split lt is =
+      ap (λ (l : List X). map f l) (split_here xs i x lt is) ∙ map_over f (take i xs) (x ∷ drop (i + 1) xs)
+      ∙ sym (append_assoc (map f (take i xs)) (f x ∷ []) (map f (drop (i + 1) xs)))
+
+-- ---- lines
 
 -- the line at hand was played in part
-pub cut_short : (a b c : Option (List ℕ)) (xs : List code.Line) (i : ℕ) (x : code.Line) (m : State) → i < length xs → x ≡ get_or xs i x
-    → Played start m a b (map line_seen (take i xs)) → PlayedInPart m b c (line_seen x ∷ []) → CutShort a c (map line_seen xs)
-cut_short a b c xs i x m lt is p q =
-    let all : map line_seen xs ≡ map line_seen (take i xs) ++ line_seen x ∷ map line_seen (drop (i + 1) xs) =
-    ap (λ (l : List code.Line). map line_seen l) (split_here xs i x lt is) ∙ map_over line_seen (take i xs) (x ∷ drop (i + 1) xs) in
-    subst (λ (l : List Line). CutShort a c l) (sym all) (cut_here a b c _ (line_seen x) _ m p q)
+pub cut_short : (a c : Option (List ℕ)) (xs : List code.Line) (i : ℕ) (x : code.Line) → i < length xs → x ≡ get_or xs i x → PlayedInPart a c (map line_seen (take i xs) ++ line_seen x ∷ []) → CutShort a c (map line_seen xs)
+cut_short a c xs i x lt is part = record {
+  first = map line_seen (take i xs) ++ line_seen x ∷ [];
+  rest = map line_seen (drop (i + 1) xs);
+  split = mapped_split line_seen xs i x lt is;
+  part = part;
+}
 
--- all lines were played
-pub all_played : (a b : Option (List ℕ)) (xs : List code.Line) (i : ℕ) (m : State) → length xs ≤ i → Played start m a b (map line_seen (take i xs)) → Played start m a b (map line_seen xs)
-all_played a b xs i m le p = subst (λ (l : List code.Line). Played start m a b (map line_seen l)) (take_all i xs le) p
+-- ---- calls
+
+module _ (p : Lanes) (start : State) (h : List machine.Event) (calls : List (ℕ × Call)) (i : ℕ) where
+  -- one more call was made
+  pub one_made : (q : Lanes) (x : ℕ × Call) (replies : List Reply) (reply : Reply) → i < length calls → x ≡ get_or calls i x
+      → HasMade p start h (map asked (take i calls)) replies
+      → ((g : List machine.Event) → PlayerStands p start g → PlayerStands q start (with_event g x.0 (call_of x.1) (Some (reply_of reply))))
+      → HasMade q start h (map asked (take (i + 1) calls)) (replies ++ reply ∷ [])
+  one_made q x replies reply lt is made step =
+      let e : machine.Event = record { pass = x.0; call = call_of x.1; reply = reply_of reply } in
+      record {
+        events = made.events ++ e ∷ [];
+        are_of = map_push (λ (v : machine.Event). (v.pass, v.call)) made.events e ∙ ap (λ (l : List (ℕ × machine.Call)). l ++ asked x ∷ []) made.are_of ∙ mapped_more asked calls i x lt is;
+        replied = map_push (λ (v : machine.Event). v.reply) made.events e ∙ ap (λ (l : List machine.Reply). l ++ reply_of reply ∷ []) made.replied ∙ sym (map_push reply_of replies reply);
+        stands = subst (λ (l : List machine.Event). PlayerStands q start l) (append_assoc h made.events (e ∷ [])) (step (h ++ made.events) made.stands);
+      }
+
+  -- the first calls were made, and no more
+  pub first_made : (replies : List Reply) → HasMade p start h (map asked (take i calls)) replies → HasMadeFirst p start h (map asked calls)
+  first_made replies made = record {
+    first = map asked (take i calls);
+    rest = map asked (drop i calls);
+    split = ap (λ (l : List (ℕ × Call)). map asked l) (sym (take-append-drop i calls)) ∙ map_over asked (take i calls) (drop i calls);
+    events = made.events;
+    are_of = made.are_of;
+    stands = made.stands;
+  }
+
+-- no call was made yet
+pub nothing_made : (p : Lanes) (start : State) (h : List machine.Event) (calls : List (ℕ × Call)) (replies : List Reply) → PlayerStands p start h → replies ≡ [] → HasMade p start h (map asked (take 0 calls)) replies
+nothing_made p start h calls replies st empty = record {
+  events = [];
+  are_of = refl;
+  replied = sym (ap (λ (l : List Reply). map reply_of l) empty);
+  stands = subst (λ (l : List machine.Event). PlayerStands p start l) (sym (append-nil h)) st;
+}
+
+-- all calls were made
+pub all_made : (p : Lanes) (start : State) (h : List machine.Event) (calls : List (ℕ × Call)) (i : ℕ) (replies : List Reply) → length calls ≤ i → HasMade p start h (map asked (take i calls)) replies → HasMade p start h (map asked calls) replies
+all_made p start h calls i replies le made = subst (λ (l : List (ℕ × Call)). HasMade p start h (map asked l) replies) (take_all i calls le) made
+
+-- the player changed, and stands for what it stood for
+pub kept_made : (p q : Lanes) (start : State) (h : List machine.Event) (calls : List (ℕ × machine.Call)) (replies : List Reply) → HasMade p start h calls replies
+    → ((g : List machine.Event) → PlayerStands p start g → PlayerStands q start g) → HasMade q start h calls replies
+kept_made p q start h calls replies made same = record { events = made.events; are_of = made.are_of; replied = made.replied; stands = same (h ++ made.events) made.stands }
+
+pub always : {T E P : Type 0} (r : Result T E) → P → OnErr r P
+always (Ok x) p = tt
+always (Err e) p = p

@@ -1,0 +1,80 @@
+-- What a player stands for: a history of its book, and the pins of its lanes.
+use Rattle.std.specs.Prelude.{◌≡◌, ℕ, ◌+◌, ◌≤◌, List, [], ◌++◌, length, map, Option, Some, None, Result, Ok, Err, IsFalse, All, slice_get}
+use Rattle.std.specs.declared.alloc.AllocError.{AllocError}
+use Rattle.adb_model.specs.State.{State}
+use Rattle.adb_model.specs.Storages.{is_filling}
+use Rattle.adb_model.specs.Call as machine
+use Rattle.adb_model.specs.History.{state_after}
+use Rattle.adb_model.specs.Seen.{call_of, reply_of}
+use Rattle.adb_model.specs.declared.call.Call.{Call}
+use Rattle.adb_model.specs.declared.call.Reply.{Reply}
+use Rattle.pass_pins.specs.Pins.{Pins}
+use Rattle.book_parts.specs.Parts.{Parts}
+use Rattle.book_parts.specs.Pins.{HoldsPins}
+use Rattle.book_parts.specs.Stands.{Stands}
+
+-- the number of a lane
+abbrev pub IsLane : ℕ → Type 0
+IsLane lane = (1 ≤ lane) × (lane ≤ 64)
+
+-- what contracts see of a player: its book, and the pins of lane 1, of lane 2, and so on
+pub record Lanes : Type 0 where
+  pub book : Parts
+  pub pins : List Pins
+
+-- there are 64 lanes, and each has in hand what its pass has pinned
+pub record LanesHold (pins : List Pins) (m : State) : Type 0 where
+  pub count : length pins ≡ 64
+  pub each : (i : ℕ) (p : Pins) → slice_get pins i ≡ Some p → (p.pass ≡ i + 1) × HoldsPins p m
+
+-- the player stands for this history from this start
+pub record PlayerStands (p : Lanes) (start : State) (history : List machine.Event) : Type 0 where
+  pub book : Stands p.book start history
+  pub pins : LanesHold p.pins (state_after start history)
+
+-- the player stands for some history
+pub record HasHistory (p : Lanes) : Type 0 where
+  pub start : State
+  pub history : List machine.Event
+  pub stands : PlayerStands p start history
+
+-- nobody has anything pinned, and no flush, shrink or snapshot is open
+pub record IsQuiet (m : State) : Type 0 where
+  pub pins : m.pins ≡ []
+  pub shrinks : m.shrinks ≡ []
+  pub filling : All (λ t. IsFalse (is_filling t)) m.storages
+  pub snap : m.snap ≡ None
+
+-- the reply that was told; for want of memory there is none
+abbrev pub told : Result Reply AllocError → Option machine.Reply
+told (Ok reply) = Some (reply_of reply)
+told (Err error) = None
+
+-- a lane's call
+abbrev pub asked : ℕ × Call → ℕ × machine.Call
+asked c = (c.0, call_of c.1)
+
+-- the events are those of the calls, in order
+abbrev pub AreOf : List (ℕ × machine.Call) → List machine.Event → Type 0
+AreOf calls events = map (λ e. (e.pass, e.call)) events ≡ calls
+
+-- the calls were made after a history, each with its reply
+pub record HasMade (p : Lanes) (start : State) (history : List machine.Event) (calls : List (ℕ × machine.Call)) (replies : List Reply) : Type 0 where
+  pub events : List machine.Event
+  pub are_of : AreOf calls events
+  pub replied : map (λ e. e.reply) events ≡ map reply_of replies
+  pub stands : PlayerStands p start (history ++ events)
+
+-- some of the first calls were made after a history
+pub record HasMadeFirst (p : Lanes) (start : State) (history : List machine.Event) (calls : List (ℕ × machine.Call)) : Type 0 where
+  pub first : List (ℕ × machine.Call)
+  pub rest : List (ℕ × machine.Call)
+  pub split : calls ≡ first ++ rest
+  pub events : List machine.Event
+  pub are_of : AreOf first events
+  pub stands : PlayerStands p start (history ++ events)
+
+-- each of the 64 lanes has no pin in hand
+pub record HaveNoPins (pins : List Pins) : Type 0 where
+  pub count : length pins ≡ 64
+  pub each : (i : ℕ) (p : Pins) → slice_get pins i ≡ Some p → p ≡ record { pass = i + 1; pins = [] }

@@ -1,0 +1,123 @@
+ghost use Rattle.std.specs.Prelude.{ℕ, List, All, IfOk, OnErr, map};
+ghost use Rattle.adb_model.specs.State.{State};
+ghost use Rattle.adb_model.specs.Call as machine;
+ghost use Rattle.adb_model.specs.History.{state_after};
+ghost use Rattle.adb_model.specs.Seen.{call_of};
+ghost use Rattle.book_parts.specs.Stands.{Stands, with_event};
+ghost use Rattle.book.specs.Replies.{load_reply};
+ghost use Rattle.replay.specs.Standing.{IsLane, IsQuiet, PlayerStands, HasHistory, HaveNoPins, HasMade, HasMadeFirst, asked, told};
+
+use crate::replies::{loaded, purged, rooted, stored};
+use adb_model::{Call, Key, Reply, View};
+use book::{Book, Found, LoadRefusal};
+use pass_pins::PassPins;
+use std::alloc::{AllocError, Global};
+use std::marker::Model;
+
+/// The greatest number of a lane. The lanes are numbered from 1.
+pub const MAX_LANES: u64 = 64;
+
+/// Plays calls of up to 64 lanes over a book, one after another. A lane's number is its pass.
+#[derive(Drop)]
+pub struct Player {
+    book: Book,
+    // What each lane has pinned, lane 1 first.
+    pins: Vec<PassPins>,
+}
+
+impl Model for Player {
+    ghost use Rattle.replay.specs.Standing.{Lanes, HasHistory};
+
+    ghost Value = { Lanes };
+
+    ghost view = { λ p. record { book = p.book; pins = p.pins.items } };
+
+    ghost invariant = { λ p. HasHistory (record { book = p.book; pins = p.pins.items }) };
+}
+
+// What a view sees of a key, for the pass of a lane.
+fn load(
+    book: &mut Book,
+    pins: &mut Vec<PassPins>,
+    lane: u64,
+    view: &View,
+    key: &Key,
+) -> Result<Option<Found>, LoadRefusal>
+    requires lane { IsLane lane }
+    requires some { HasHistory (record { book = book.old; pins = pins.old.items }) }
+    ensures { (start : State) (history : List machine.Event) → PlayerStands (record { book = book.old; pins = pins.old.items }) start history
+        → PlayerStands (record { book = book.new; pins = pins.new.items }) start (with_event history lane (machine.Load view.now key.now.0) (load_reply result)) }
+{
+    let pins = &mut pins[lane as usize - 1];
+    book.load(pins, view, key)
+}
+
+impl Player {
+    /// A player of this book, whose state has no pins, no open flush or shrink, and no snapshot.
+    pub fn new(alloc: Global, book: Book) -> Result<Player, AllocError>
+        requires { (start : State) × (history : List machine.Event) × Stands book start history × IsQuiet (state_after start history) }
+        ensures { (start : State) (history : List machine.Event) → Stands book start history → IsQuiet (state_after start history)
+            → IfOk result (λ player. PlayerStands player start history) }
+    {
+        let pins = unpinned(alloc)?;
+        Ok(Player { book, pins })
+    }
+
+    /// Makes one event, and gives its reply. After want of memory nothing has changed.
+    pub fn step<R: AllocGlobal>(
+        &mut self,
+        rt: &R,
+        lane: u64,
+        call: &Call,
+    ) -> Result<Reply, AllocError>
+        requires { IsLane lane }
+        ensures { (start : State) (history : List machine.Event) → PlayerStands self.old start history
+            → PlayerStands self.new start (with_event history lane (call_of call.now) (told result)) }
+    {
+        match call {
+            Call::Store { slot, key, account } => {
+                stored(self.book.store(*slot, *key, account.clone()?))
+            }
+            Call::Root { slot } => rooted(self.book.root(*slot)),
+            Call::Purge { slot } => purged(self.book.purge(*slot)),
+            Call::Load { view, key } => {
+                loaded(load(&mut self.book, &mut self.pins, lane, view, key))
+            }
+            Call::Stats => Ok(Reply::Counted {
+                stats: self.book.stats(),
+            }),
+        }
+    }
+
+    /// Makes the events of calls, each of a lane, in order, and gives their replies. After want of memory some of
+    /// the first calls were made.
+    pub fn run<R: AllocGlobal>(
+        &mut self,
+        rt: &R,
+        calls: &[(u64, Call)],
+    ) -> Result<Vec<Reply>, AllocError>
+        requires { All (λ c. IsLane c.0) calls.now }
+        ensures ok { (start : State) (history : List machine.Event) → PlayerStands self.old start history
+            → IfOk result (λ replies. HasMade self.new start history (map asked calls.now) replies.items) }
+        ensures err { (start : State) (history : List machine.Event) → PlayerStands self.old start history
+            → OnErr result (HasMadeFirst self.new start history (map asked calls.now)) }
+    {
+        let mut replies = Vec::with_capacity(rt.alloc(), calls.len())?;
+        for (lane, call) in calls {
+            let reply = self.step(rt, *lane, call)?;
+            replies.push(reply)?;
+        }
+        Ok(replies)
+    }
+}
+
+// The pins of lanes that have pinned nothing.
+fn unpinned(alloc: Global) -> Result<Vec<PassPins>, AllocError>
+    ensures { IfOk result (λ pins. HaveNoPins pins.items) }
+{
+    let mut pins = Vec::with_capacity(alloc, MAX_LANES as usize)?;
+    for lane in 1..=MAX_LANES {
+        pins.push(PassPins::new(lane))?;
+    }
+    Ok(pins)
+}
