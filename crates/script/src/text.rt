@@ -1,6 +1,6 @@
-ghost use Rattle.std.specs.Prelude.{◌≡◌, ◌++◌, IfOk, OnOk};
+ghost use Rattle.std.specs.Prelude.{◌≡◌, ◌++◌, ◌∷◌, [], IfOk, OnOk};
+ghost use Rattle.std.specs.Fmt.{decimal};
 ghost use Rattle.std.specs.String.{string_bytes};
-ghost use Rattle.hex.specs.Hex.{encode_lower};
 ghost use Rattle.adb_model.specs.Seen.{call_of, counts_of, reply_of, place_of, refusal_of};
 ghost use Rattle.script.specs.Text as texts;
 
@@ -8,7 +8,7 @@ use crate::printed_view::PrintedView;
 use adb_model::{Account, Call, Place, Refusal, Reply, Stats};
 use std::alloc::{AllocError, Global};
 use std::fmt::Write;
-use text_fields::{push_key, push_number};
+use text_fields::{push_hex, push_key, push_number};
 
 /// Data of more bytes than this is printed as `LEN*BB`, where all of them are equal.
 const MOST_PLAIN: usize = 32;
@@ -16,11 +16,12 @@ const MOST_PLAIN: usize = 32;
 /// The room that is taken for a line at first; most lines need no more.
 const LINE_ROOM: usize = 128;
 
-fn push_hex(alloc: Global, text: &mut String, bytes: &[u8]) -> Result<(), AllocError>
-    ensures { OnOk result (string_bytes text.new ≡ string_bytes text.old ++ encode_lower bytes.now) }
+// Puts a number and a space at the end of a text.
+fn push_spaced(text: &mut String, n: u64) -> Result<(), AllocError>
+    ensures { OnOk result (string_bytes text.new ≡ string_bytes text.old ++ decimal n ++ 32 ∷ []) }
 {
-    let digits = hex::encode(alloc, bytes)?;
-    text.push_str(&digits)
+    push_number(text, n)?;
+    text.push_str(" ")
 }
 
 fn are_equal(bytes: &[u8]) -> bool
@@ -33,7 +34,7 @@ fn are_equal(bytes: &[u8]) -> bool
 }
 
 #[tactic(auto, unfolding(crate::specs::Text::data_text))]
-fn push_data(alloc: Global, text: &mut String, bytes: &[u8]) -> Result<(), AllocError>
+fn push_data(text: &mut String, bytes: &[u8]) -> Result<(), AllocError>
     ensures { OnOk result (string_bytes text.new ≡ string_bytes text.old ++ texts.data_text bytes.now) }
 {
     if bytes.is_empty() {
@@ -43,23 +44,21 @@ fn push_data(alloc: Global, text: &mut String, bytes: &[u8]) -> Result<(), Alloc
     if len > MOST_PLAIN && are_equal(bytes) {
         write!(text, "{len}*")?;
         let (first, _) = bytes.split_at(1);
-        return push_hex(alloc, text, first);
+        return push_hex(text, first);
     }
-    push_hex(alloc, text, bytes)
+    push_hex(text, bytes)
 }
 
 #[tactic(auto, unfolding(crate::specs::Text::account_text))]
-fn push_account(alloc: Global, text: &mut String, account: &Account) -> Result<(), AllocError>
+fn push_account(text: &mut String, account: &Account) -> Result<(), AllocError>
     ensures { OnOk result (string_bytes text.new ≡ string_bytes text.old ++ texts.account_text account.now) }
 {
     let head = account.head();
-    let lamports = head.lamports;
-    let executable = if head.executable { "1" } else { "0" };
-    let epoch = head.rent_epoch;
-    write!(text, "{lamports} ")?;
-    push_key(alloc, text, &head.owner)?;
-    write!(text, " {executable} {epoch} ")?;
-    push_data(alloc, text, account.data())
+    push_spaced(text, head.lamports)?;
+    push_key(text, &head.owner)?;
+    text.push_str(if head.executable { " 1 " } else { " 0 " })?;
+    push_spaced(text, head.rent_epoch)?;
+    push_data(text, account.data())
 }
 
 /// Puts `all`, or the number, at the end of a text.
@@ -84,10 +83,11 @@ fn push_call(
 {
     match call {
         Call::Store { slot, key, account } => {
-            write!(text, "store {slot} ")?;
-            push_key(alloc, text, &key.0)?;
+            text.push_str("store ")?;
+            push_spaced(text, *slot)?;
+            push_key(text, &key.0)?;
             text.push_str(" ")?;
-            push_account(alloc, text, account)
+            push_account(text, account)
         }
         Call::Root { slot } => write!(text, "root {slot}"),
         Call::Purge { slot } => write!(text, "purge {slot}"),
@@ -95,7 +95,7 @@ fn push_call(
             text.push_str("load ")?;
             last.push(alloc, text, view)?;
             text.push_str(" ")?;
-            push_key(alloc, text, &key.0)
+            push_key(text, &key.0)
         }
         Call::Stats => text.push_str("stats"),
     }
@@ -149,7 +149,7 @@ fn push_stats(text: &mut String, stats: &Stats) -> Result<(), AllocError>
 }
 
 #[tactic(auto, unfolding(crate::specs::Text::reply_text))]
-fn push_reply(alloc: Global, text: &mut String, reply: &Reply) -> Result<(), AllocError>
+fn push_reply(text: &mut String, reply: &Reply) -> Result<(), AllocError>
     ensures { OnOk result (string_bytes text.new ≡ string_bytes text.old ++ texts.reply_text (reply_of reply.now)) }
 {
     match reply {
@@ -162,10 +162,11 @@ fn push_reply(alloc: Global, text: &mut String, reply: &Reply) -> Result<(), All
             place,
             account,
         } => {
-            write!(text, "some {slot} ")?;
+            text.push_str("some ")?;
+            push_spaced(text, *slot)?;
             push_place(text, *place)?;
             text.push_str(" ")?;
-            push_account(alloc, text, account)
+            push_account(text, account)
         }
         Reply::Counted { stats } => push_stats(text, stats),
     }
@@ -183,11 +184,10 @@ fn push_line(
 ) -> Result<(), AllocError>
     ensures { OnOk result (string_bytes text.new ≡ string_bytes text.old ++ texts.text_of (record { pass = lane; call = call_of call.now; reply = reply_of reply.now })) }
 {
-    push_number(text, lane)?;
-    text.push_str(" ")?;
+    push_spaced(text, lane)?;
     push_call(alloc, text, last, call)?;
     text.push_str(" = ")?;
-    push_reply(alloc, text, reply)?;
+    push_reply(text, reply)?;
     text.push_str("\n")
 }
 

@@ -1,2 +1,3 @@
+pub mod HexTextLemmas
 pub mod NumberLemmas
 pub mod KeyLemmas

@@ -2,6 +2,7 @@ ghost use Rattle.std.specs.Prelude.{◌≡◌, ◌<◌, ◌≤◌, ◌++◌, len
 ghost use Rattle.std.specs.String.{string_bytes};
 ghost use Rattle.text_fields.specs.Keys as keys;
 
+use crate::hex_text::push_piece;
 use std::alloc::{AllocError, Global};
 
 /// The 32-byte value that a word is: an even number of 2 to 64 hexadecimal digits of either case;
@@ -42,10 +43,11 @@ pub fn key_text(alloc: Global, key: &[u8; 32]) -> Result<String, AllocError>
 
 /// Puts the value at the end of a text, as `key_text` prints it. Where memory runs out the text is
 /// as before.
-pub fn push_key(alloc: Global, text: &mut String, key: &[u8; 32]) -> Result<(), AllocError>
+#[tactic(auto, unfolding(crate::specs::Keys::key_text))]
+pub fn push_key(text: &mut String, key: &[u8; 32]) -> Result<(), AllocError>
     ensures pushed { OnOk result (string_bytes text.new ≡ string_bytes text.old ++ keys.key_text key.now) }
     ensures kept { OnErr result (string_bytes text.new ≡ string_bytes text.old) }
 {
-    let digits = key_text(alloc, key)?;
-    text.push_str(&digits)
+    let (printed, _) = key.split_at(printed_len(key));
+    push_piece(text, printed)
 }

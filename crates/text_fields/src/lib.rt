@@ -6,12 +6,14 @@
 //! zero bytes cut. What is printed is read again as the same value.
 #![tactic(auto)]
 
+mod hex_text;
 mod key;
 mod laws;
 mod number;
 #[cfg(test)]
 mod tests;
 
+pub use hex_text::push_hex;
 pub use key::{key_text, push_key, read_key};
 pub use laws::{
     key_texts_are_keys, key_words_are_keys, number_texts_are_numbers, number_words_are_numbers,

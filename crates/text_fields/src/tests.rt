@@ -46,7 +46,7 @@ fn keys_are_read_and_printed(rt: HostRuntime) -> Result<(), Fail> {
         read_key(b"ff07").map(|key| (key[0], key[1], key[2], key[31])) == Some((255, 7, 0, 0))
     );
     let mut text = String::from_str(alloc, "get ")?;
-    push_key(alloc, &mut text, &[0; 32])?;
+    push_key(&mut text, &[0; 32])?;
     assert!(rt; text.as_str() == "get 00");
     Ok(())
 }
