@@ -36,7 +36,7 @@ may_flush m slot none = record {
 }
 
 -- the slot has no storage that is being filled
-no_filling : (m : State) (slot : ℕ) → IsSound m → IsFalse (among slot m.flushed) → open_flush m slot ≡ None → All (λ t. IsTrue (is_filling t) → t.slot ≢ slot) m.storages
+pub no_filling : (m : State) (slot : ℕ) → IsSound m → IsFalse (among slot m.flushed) → open_flush m slot ≡ None → All (λ t. IsTrue (is_filling t) → t.slot ≢ slot) m.storages
 no_filling m slot h unflushed closed k d lt fill e =
     let t : Storage = get_or m.storages k d in
     let fits : SlotFits m t = h.slots.storages k d lt in

@@ -39,7 +39,7 @@ opened m slot t h e =
     let fits : SlotFits m t = All-contains (SlotFits m) m.storages t h.slots.storages f.0 in
     (record { there = f.0; fills = fills.0; no_copy = no_copy; root = fits.rooted fills.0; unflushed = fits.copied fills.0 ∙ no_copy }, eqb-true t.slot slot fills.1)
 
-abbrev pairs : Storage → List Pair
+abbrev pub pairs : Storage → List Pair
 pairs t = map (λ r. record { slot = t.slot; key = r.key }) t.rows
 
 -- a pair that is named after it was named before, or is of the storage
@@ -64,11 +64,11 @@ named_new m t s k e r =
 
 module _ (m : State) (t : Storage) (h : IsSound m) (is : IsOpen m t) where
   -- a storage with the id is this one
-  one : (u : Storage) → Contains m.storages u → u.id ≡ t.id → u ≡ t
+  pub one : (u : Storage) → Contains m.storages u → u.id ≡ t.id → u ≡ t
   one u c e = one_by (λ (v : Storage). v.id) m.storages u t h.ids.differ c is.there e
 
   -- another storage that is being filled is of another slot
-  other_slot : (u : Storage) → Contains m.storages u → u.id ≢ t.id → IsTrue (is_filling u) → u.slot ≢ t.slot
+  pub other_slot : (u : Storage) → Contains m.storages u → u.id ≢ t.id → IsTrue (is_filling u) → u.slot ≢ t.slot
   other_slot u c ne fill e =
       elim (pairs_at (λ a b. IsTrue (is_filling a) → IsTrue (is_filling b) → a.slot ≢ b.slot) m.storages u t h.slots.one_filling c is.there) [
         | inl same ↦ ne (ap (λ (v : Storage). v.id) same)
@@ -86,7 +86,7 @@ module _ (m : State) (t : Storage) (h : IsSound m) (is : IsOpen m t) where
   flushed_cases s f = elim (or_cases (among s m.flushed) (eqb t.slot s) (sym (any_push (λ x. eqb x s) m.flushed t.slot) ∙ f)) [ inl before ↦ inl before | inr new ↦ inr (eqb-true t.slot s new) ]
 
   -- a storage that is Live after was Live, or is this one
-  live_cases : (u : Storage) → IsTrue (is_live (in_phase t.id Live u)) → IsTrue (is_live u) ⊎ (u.id ≡ t.id)
+  pub live_cases : (u : Storage) → IsTrue (is_live (in_phase t.id Live u)) → IsTrue (is_live u) ⊎ (u.id ≡ t.id)
   live_cases u live = elim (cases_eq u.id t.id) [ inl e ↦ inr e | inr ne ↦ inl (sym (ap is_live (other_same t.id Live u ne)) ∙ live) ]
 
   live_before : (u : Storage) → IsTrue (is_live u) → IsTrue (is_live (in_phase t.id Live u))
@@ -205,7 +205,7 @@ module _ (m : State) (t : Storage) (h : IsSound m) (is : IsOpen m t) where
       before u un = (or_parts _ _ (sym (any_push (λ x. eqb x u.slot) m.flushed t.slot) ∙ un)).0
 
   -- what is held after was held, or is a row of this one
-  held_cases : (s : ℕ) (k : List ℕ) → IsTrue (is_held (flushed_with m t) s k) → IsTrue (is_held m s k) ⊎ ((t.slot ≡ s) × IsTrue (has_row k t.rows))
+  pub held_cases : (s : ℕ) (k : List ℕ) → IsTrue (is_held (flushed_with m t) s k) → IsTrue (is_held m s k) ⊎ ((t.slot ≡ s) × IsTrue (has_row k t.rows))
   held_cases s k held =
       let a = member (λ u. (is_live (in_phase t.id Live u) && eqb (in_phase t.id Live u).slot s) && has_row k (in_phase t.id Live u).rows) m.storages
       (sym (any_map (in_phase t.id Live) (λ u. (is_live u && eqb u.slot s) && has_row k u.rows) m.storages) ∙ held) in
@@ -220,19 +220,19 @@ module _ (m : State) (t : Storage) (h : IsSound m) (is : IsOpen m t) where
             inr (ap (λ (u : Storage). u.slot) (sym same) ∙ eqb-true a.0.slot s slot, ap (λ (u : Storage). has_row k u.rows) (sym same) ∙ row)
       ]
 
-  held_of : (u : Storage) (s : ℕ) (k : List ℕ) → Contains m.storages u → IsTrue (is_live (in_phase t.id Live u)) → u.slot ≡ s → IsTrue (has_row k u.rows) → IsTrue (is_held (flushed_with m t) s k)
+  pub held_of : (u : Storage) (s : ℕ) (k : List ℕ) → Contains m.storages u → IsTrue (is_live (in_phase t.id Live u)) → u.slot ≡ s → IsTrue (has_row k u.rows) → IsTrue (is_held (flushed_with m t) s k)
   held_of u s k c live e row =
       any_map (in_phase t.id Live) (λ u. (is_live u && eqb u.slot s) && has_row k u.rows) m.storages
       ∙ any_at (λ u. (is_live (in_phase t.id Live u) && eqb (in_phase t.id Live u).slot s) && has_row k (in_phase t.id Live u).rows) m.storages u c
       (and_from _ _ (and_from _ _ live (eq-eqb _ s (slot_same t.id Live u ∙ e))) (ap (has_row k) (rows_same t.id Live u) ∙ row))
 
-  here_live : IsTrue (is_live (in_phase t.id Live t))
+  pub here_live : IsTrue (is_live (in_phase t.id Live t))
   here_live = at_phase t.id Live t (λ v. IsTrue (is_live v)) (λ e. refl) (λ ne. absurd (ne refl))
 
   fits_rows : RowsFit m t
   fits_rows = All-contains (RowsFit m) m.storages t h.rows is.there
 
-  held_after : (s : ℕ) (k : List ℕ) → IsTrue (is_held m s k) → IsTrue (is_held (flushed_with m t) s k)
+  pub held_after : (s : ℕ) (k : List ℕ) → IsTrue (is_held m s k) → IsTrue (is_held (flushed_with m t) s k)
   held_after s k held =
       let a = member (λ u. (is_live u && eqb u.slot s) && has_row k u.rows) m.storages held in
       let parts = and_parts _ _ a.2 in

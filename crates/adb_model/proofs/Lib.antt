@@ -48,6 +48,18 @@ pub mod OneHistory
 pub mod Histories
 pub mod PairsFollow
 pub mod CachedCounts
+pub mod Finds
+pub mod OneChanged
+pub mod FreshIds
+pub mod FlushBegins
+pub mod OpenFlush
+pub mod FlushEnds
+pub mod FlushEndCounts
+pub mod FlushDrops
+pub mod Within
+pub mod PinCounts
+pub mod RowBytes
+pub mod NamedRows
 mod PlayedValues
 mod PlayedFirst
 mod PlayedFurther

@@ -26,7 +26,7 @@ use Rattle.adb_model.proofs.OpenedStores.{as_store, into_flat, from_flat}
 abbrev storages_from : ℕ → List Image → List Storage
 storages_from n images = map storage_of (enumerate_from n images)
 
-from_storages : (n : ℕ) (images : List Image) (t : Storage) → Contains (storages_from n images) t → (i : Image) × Contains images i × (t ≡ storage_of (t.id, i)) × (n ≤ t.id) × (t.id < n + length images)
+pub from_storages : (n : ℕ) (images : List Image) (t : Storage) → Contains (storages_from n images) t → (i : Image) × Contains images i × (t ≡ storage_of (t.id, i)) × (n ≤ t.id) × (t.id < n + length images)
 from_storages n [] t c = absurd (contains_none t c)
 from_storages n (x ∷ xs) t c =
     elim (contains_cases (storage_of (n, x)) t (storages_from (n + 1) xs) c) [

@@ -133,7 +133,7 @@ module _ (m : State) (u : Storage) where
   pub rows_same : (retired m u).rows ≡ u.rows
   rows_same = at_retired (λ v. v.rows ≡ u.rows) (λ l f. refl) (λ n. refl)
 
-  bytes_same : (retired m u).bytes ≡ u.bytes
+  pub bytes_same : (retired m u).bytes ≡ u.bytes
   bytes_same = at_retired (λ v. v.bytes ≡ u.bytes) (λ l f. refl) (λ n. refl)
 
   pub filling_same : is_filling (retired m u) ≡ is_filling u

@@ -41,7 +41,7 @@ module _ (g : Shrink) (u : Storage) where
   pub rows_same : (exchanged g u).rows ≡ u.rows
   rows_same = at_exchange (λ v. v.rows ≡ u.rows) (λ e. refl) (λ e. refl) (λ e f. refl)
 
-  bytes_same : (exchanged g u).bytes ≡ u.bytes
+  pub bytes_same : (exchanged g u).bytes ≡ u.bytes
   bytes_same = at_exchange (λ v. v.bytes ≡ u.bytes) (λ e. refl) (λ e. refl) (λ e f. refl)
 
   live_cases : IsTrue (is_live (exchanged g u)) → (u.id ≡ g.new) ⊎ (IsTrue (is_live u) × (u.id ≢ g.old))

@@ -17,6 +17,10 @@ flush_rows m slot = filter_map (λ k. option_map (λ t. record { key = t.key; ac
 abbrev pub has_cached_key : State → ℕ → Bool
 has_cached_key m slot = list_any (λ t. t.slot == slot) m.stores && not (among slot m.flushed)
 
+-- the storage that is being filled then
+abbrev pub filling_with : State → ℕ → List Row → Storage
+filling_with m slot rows = record { id = m.next_id; slot = slot; rows = rows; bytes = bytes_of rows; phase = Filling }
+
 -- one more storage is being filled
 abbrev pub with_filling : State → ℕ → List Row → State
 with_filling m slot rows = record m {

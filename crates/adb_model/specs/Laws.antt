@@ -1,11 +1,13 @@
 -- Words of the laws that hold of sound states.
-use Rattle.std.specs.Prelude.{◌≡◌, ℕ, ◌<◌, ◌≤◌, ◌==◌, ◌&&◌, IsTrue, IsFalse, List, [], length, filter, Option, option_and_then, All, AllPairs, Any, sum_by}
+use Rattle.std.specs.Prelude.{◌≡◌, ℕ, ◌<◌, ◌≤◌, ◌==◌, ◌&&◌, IsTrue, IsFalse, List, [], length, filter, Option, Some, None, option_and_then, All, AllPairs, Any, sum_by}
 use Rattle.std.specs.Str.{bytes_eq}
 use Rattle.adb_model.specs.Lists.{among, greatest}
 use Rattle.adb_model.specs.View.{View}
 use Rattle.adb_model.specs.State.{Stored, Row, Storage, State}
 use Rattle.adb_model.specs.Load.{sees, last_store, unless_tomb}
-use Rattle.adb_model.specs.Presence.{is_cached, is_named, is_present, is_live, has_row}
+use Rattle.adb_model.specs.Presence.{has_store, is_cached, is_named, is_present, is_live, is_held, has_row}
+use Rattle.adb_model.specs.Storages.{is_filling, storage_with, live_storage, filling_storage, is_copy}
+use Rattle.adb_model.specs.Shrink.{named_in}
 use Rattle.adb_model.specs.Reclaimable.{present_slots}
 use Rattle.adb_model.specs.Flush.{has_cached_key}
 use Rattle.adb_model.specs.Opened.{Image}
@@ -70,3 +72,20 @@ pub record IsPlacedIn (m : State) (s : ℕ) (k : List ℕ) (t : Storage) : Type 
   pub place : place_of m s k ≡ InStorage t.id
   pub row : IsTrue (has_row k t.rows)
   pub last : last_row k t.rows ≡ last_account m s k
+
+-- the storage that a flush of the slot is filling: it has a row of each key stored in the slot, and nothing of the slot is in use
+pub record IsOpenFlush (m : State) (slot : ℕ) (t : Storage) : Type 0 where
+  pub of_slot : t.slot ≡ slot
+  pub fills : IsTrue (is_filling t)
+  pub no_copy : IsFalse (is_copy m t.id)
+  pub with_id : storage_with m t.id ≡ Some t
+  pub in_slot : filling_storage m slot ≡ Some t
+  pub root : IsTrue (among slot m.roots)
+  pub unflushed : IsFalse (among slot m.flushed)
+  pub live : live_storage m slot ≡ None
+  pub held : (k : List ℕ) → IsFalse (is_held m slot k)
+  pub named : (k : List ℕ) → IsFalse (is_named m slot k)
+  pub none_named : named_in m slot ≡ 0
+  pub stored : (k : List ℕ) → has_row k t.rows ≡ has_store m slot k
+  pub some : 0 < length t.rows
+  pub last : (k : List ℕ) → IsTrue (has_row k t.rows) → last_row k t.rows ≡ last_account m slot k

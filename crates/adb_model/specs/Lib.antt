@@ -27,3 +27,4 @@ pub mod Cache
 pub mod Laws
 pub mod Inside
 pub mod Seen
+pub mod RowBytes

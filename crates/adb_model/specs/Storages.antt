@@ -1,5 +1,5 @@
 -- A slot's storages, and what all storages have together.
-use Rattle.std.specs.Prelude.{ℕ, ◌==◌, ◌&&◌, ◌||◌, not, Bool, true, false, if◌then◌else◌, List, Option, find, filter, map, sum_by}
+use Rattle.std.specs.Prelude.{ℕ, ◌+◌, ◌==◌, ◌&&◌, ◌||◌, not, Bool, true, false, if◌then◌else◌, List, Option, find, filter, map, count_by, sum_by}
 use Rattle.std.specs.List.{list_any}
 use Rattle.std.specs.Option.{option_map_or}
 use Rattle.adb_model.specs.Lists.{among}
@@ -33,6 +33,14 @@ used m = sum_by (λ t. t.bytes) m.storages
 abbrev pub live_storage : State → ℕ → Option Storage
 live_storage m s = find (λ t. is_live t && t.slot == s) m.storages
 
+-- the storage with the id
+abbrev pub storage_with : State → ℕ → Option Storage
+storage_with m id = find (λ t. t.id == id) m.storages
+
+-- the slot's storage that is being filled
+abbrev pub filling_storage : State → ℕ → Option Storage
+filling_storage m s = find (λ t. is_filling t && t.slot == s) m.storages
+
 -- the slot's open shrink
 abbrev pub open_shrink : State → ℕ → Option Shrink
 open_shrink m s = find (λ h. h.slot == s) m.shrinks
@@ -50,6 +58,12 @@ abbrev pub is_pinned : State → ℕ → Bool
 is_pinned m id =
     list_any (λ p. p.id == id) m.pins || list_any (λ h. h.old == id) m.shrinks
     || option_map_or (λ n. among id n.ids) m.snap false
+
+-- how often a storage is pinned: by callers, shrinks and the snapshot
+abbrev pub pin_count : State → ℕ → ℕ
+pin_count m id =
+    count_by (λ p. p.id == id) m.pins + count_by (λ h. h.old == id) m.shrinks
+    + option_map_or (λ n. count_by (λ i. i == id) n.ids) m.snap 0
 
 -- the storage, in this phase where it has the id
 abbrev pub in_phase : ℕ → Phase → Storage → Storage

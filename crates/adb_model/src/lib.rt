@@ -6,23 +6,31 @@
 
 mod account;
 mod call;
+mod counting;
 mod effects;
+mod flushing;
 mod key;
 mod laws;
+mod pinning;
 mod plain;
 mod view;
 
 pub use account::{Account, Head, MAX_DATA_LEN, TooLong};
 pub use call::{Call, Event, Place, Refusal, Reply, Stats};
+pub use counting::{counts_are_bounded, rows_have_bytes};
 pub use effects::{
     cached_pairs_are_counted, histories_go_on, last_stores_follow, only_roots_are_flushed,
     pairs_follow_purges, pairs_follow_stores, rows_are_last_stores, rows_follow_stores,
+};
+pub use flushing::{
+    flushes_are_given_up, flushes_begin, flushes_end, ids_are_fresh, open_flushes_stand,
 };
 pub use key::{Key, Slot};
 pub use laws::{
     leased_views_are_answered, named_pairs_stand_once, nothing_returns, one_history_plays,
     present_pairs_answer, states_are_sound, stored_places_stand,
 };
+pub use pinning::{pinned_storages_stand, pins_follow};
 pub use plain::plain_answer;
 pub use view::{MAX_ANCESTORS, View, ViewFault};
 
