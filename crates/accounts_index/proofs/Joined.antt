@@ -94,9 +94,9 @@ length-piece (b ∷ bins) zero d lt = omega (arith, length-append b (joined bins
 length-piece (b ∷ bins) (suc k) d lt = omega (arith, length-append b (joined bins), length-piece bins k d (omega arith))
 
 -- the bin of a key, as it is read
-module _ (index : Index) (bins : List Index) (view : joined bins ≡ index) (all : AreBins bins) (key : List ℕ) (number : ℕ) (is : number ≡ bin_of key) (within : number < 256) (bin : Index) (read : bin ≡ get_or bins number bin) where
+module _ (index : Index) (bins : List Index) (view : joined bins ≡ index) (all : AreBins bins) (key : List ℕ) (number : ℕ) (is : number ≡ bin_of key) (within : number < 81919) (bin : Index) (read : bin ≡ get_or bins number bin) where
   in_range : number < length bins
-  in_range = omega (arith, all.every_byte)
+  in_range = omega (arith, all.every_number)
 
   bin_is : (d : Index) → get_or bins number d ≡ bin
   bin_is d = get_or_default bins number d bin in_range ∙ sym read
@@ -120,7 +120,7 @@ module _ (index : Index) (bins : List Index) (view : joined bins ≡ index) (all
   module _ (new : Index) (used : AreUsed new) (ordered : IsOrdered new) where
     AreBins-number : HasNumber number new → AreBins (set bins number new)
     AreBins-number has = record {
-      every_byte = length-set bins number new ∙ all.every_byte;
+      every_number = length-set bins number new ∙ all.every_number;
       numbered = λ k d lt. at_or_apart k number
           (λ here. rw here (subst (HasNumber number) (sym (get_or-set_same bins number new d in_range)) has))
           (λ apart. subst (HasNumber k) (sym (get_or-set_other bins number k new d apart)) (all.numbered k d (omega (arith, length-set bins number new))));

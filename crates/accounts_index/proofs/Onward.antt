@@ -1,11 +1,13 @@
 -- What comes after a key in several bins, one after the other.
-use Rattle.std.proofs.Common.{◌≡◌, ℕ, zero, suc, ◌+◌, ◌-◌, ◌<◌, List, [], ◌∷◌, ◌++◌, length, take, drop, get_or, map, Bool, false, Option, Some, None, option_map, nat_lt, nat_eq, All, ◌&&◌, refl, sym, ap, ◌∙◌, arith, add-one, append_assoc, drop-cons}
+use Rattle.std.proofs.Common.{◌≡◌, ℕ, zero, suc, ◌+◌, ◌-◌, ◌<◌, List, [], ◌∷◌, ◌++◌, length, take, drop, get_or, map, Bool, false, Option, Some, None, option_map, nat_lt, All, ◌&&◌, refl, sym, ap, ◌∙◌, arith, add-one, append_assoc, drop-cons}
 use Rattle.std.specs.List.{filter, find}
 use Rattle.std.specs.Option.{option_or}
 use Rattle.std.proofs.lemmas.List.Folds.{find-append}
 use Rattle.std.proofs.lemmas.List.Elements.{filter-append}
 use Rattle.accounts_index.specs.Bins.{joined, bin_of, start_of, AreBins}
 use Rattle.accounts_index.specs.Index.{Index, Kept, is_above, is_crowded, key_after, crowded_after}
+use Rattle.std.specs.Ordering.{is_lt}
+use Rattle.accounts_index.proofs.Keys.{less_turned, lower_key}
 use Rattle.accounts_index.proofs.Walks.{take_rest}
 
 option_map-or : {A B : Type 0} (f : A → B) (x y : Option A) → option_map f (option_or x y) ≡ option_or (option_map f x) (option_map f y)
@@ -49,12 +51,7 @@ module _ (after : Option (List ℕ)) where
 
 -- no key of an earlier bin is above
 not_above_before : (key q : List ℕ) → bin_of q < bin_of key → is_above (Some key) q ≡ false
-not_above_before [] q lt = absurd (omega arith)
-not_above_before (x ∷ key) [] lt = refl
-not_above_before (x ∷ key) (y ∷ q) lt =
-    let not_less : nat_lt x y ≡ false = grind arith in
-    let apart : nat_eq x y ≡ false = grind arith in
-    rw (not_less, apart) refl
+not_above_before key q lt = ap is_lt (less_turned q key (lower_key q key lt))
 
 none_above : (key : List ℕ) (bin : Index) → All (λ e. bin_of e.0 < bin_of key) bin → (key_after bin (Some key) ≡ None) × (crowded_after bin (Some key) ≡ [])
 none_above key [] below = (refl, refl)

@@ -1,5 +1,5 @@
 -- The keys of a bin rise, and so do those of all bins together.
-use Rattle.std.proofs.Common.{◌≡◌, ℕ, suc, ◌<◌, ◌≤◌, List, [], ◌∷◌, ◌++◌, get_or, true, nat_lt, All, refl, subst, arith}
+use Rattle.std.proofs.Common.{◌≡◌, ℕ, suc, ◌<◌, ◌≤◌, List, [], ◌∷◌, ◌++◌, get_or, All, subst, arith}
 use Rattle.std.specs.declared.cmp.Ordering.TheVariants.{Less}
 use Rattle.std.proofs.lemmas.List.Elements.{All-append}
 use Rattle.std.proofs.lemmas.List.Kept.{AllPairs-cons}
@@ -7,17 +7,12 @@ use Rattle.accounts_index.specs.declared.entry.Entry.{Entry}
 use Rattle.accounts_index.specs.Bins.{bin_of, joined, AreBins}
 use Rattle.accounts_index.specs.Index.{Index, Kept, key_cmp, IsOrdered}
 use Rattle.accounts_index.specs.Inside.{seen, AreEntries}
+use Rattle.accounts_index.proofs.Keys.{lower_key}
 use Rattle.accounts_index.proofs.Joined.{From, next_from, here_from, numbered_from}
 use Rattle.accounts_index.proofs.Walks.{seen_rises}
 
 pub seen_ordered : (es : List Entry) → AreEntries es → IsOrdered (seen es)
 seen_ordered es all = seen_rises es all.rise
-
--- a key of a lower bin is below one of a higher bin
-lower_key : (p q : List ℕ) → bin_of p < bin_of q → key_cmp p q ≡ Less
-lower_key p [] lt = absurd (omega arith)
-lower_key [] (y ∷ q) lt = refl
-lower_key (x ∷ p) (y ∷ q) lt = let less : nat_lt x y ≡ true = grind arith in rw less refl
 
 abbrev Comes : List ℕ × Kept → List ℕ × Kept → Type 0
 Comes a b = key_cmp a.0 b.0 ≡ Less

@@ -1,11 +1,19 @@
 -- How the bins of an index are numbered, and what they are together.
-use Rattle.std.specs.Prelude.{◌≡◌, ◌≢◌, ℕ, ◌<◌, List, length, Option, Some, None, All, slice_index, slice_index_or}
+use Rattle.std.specs.Prelude.{◌≡◌, ◌≢◌, ◌==◌, if◌then◌else◌, ℕ, ◌+◌, ◌*◌, ◌/◌, ◌<◌, min, List, length, Option, Some, None, All, slice_index, slice_index_or}
 use Rattle.std.specs.List.{flat_map}
 use Rattle.accounts_index.specs.Index.{Index, nothing, IsOrdered}
 
--- the number of a key's bin is the key's first byte
+-- the number of a key's first two bytes
+abbrev pub first_two : List ℕ → ℕ
+first_two key = 256 * slice_index key 0 + min (slice_index key 1) 255
+
+-- the number of the 14 bits after these
+abbrev pub next_bits : List ℕ → ℕ
+next_bits key = min (64 * slice_index key 2 + min (slice_index key 3 / 4) 63) 16383
+
+-- the number of a key's bin: keys that begin with two zeros are told apart by the bits after these, and all others by their first two bytes
 abbrev pub bin_of : List ℕ → ℕ
-bin_of key = slice_index key 0
+bin_of key = if first_two key == 0 then next_bits key else 16383 + first_two key
 
 -- the number of the first bin that may have keys above another one, if one is given
 abbrev pub start_of : Option (List ℕ) → ℕ
@@ -26,7 +34,7 @@ HasNumber number bin = All (λ e. bin_of e.0 ≡ number) bin
 
 -- what holds between calls
 pub record AreBins (bins : List Index) : Type 0 where
-  pub every_byte : length bins ≡ 256
+  pub every_number : length bins ≡ 81919
   pub numbered : (k : ℕ) (d : Index) → k < length bins → HasNumber k (slice_index_or bins k d)
   pub used : All AreUsed bins
   pub ordered : All IsOrdered bins

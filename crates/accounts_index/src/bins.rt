@@ -7,12 +7,15 @@ use adb_model::Key;
 use arrayvec::ArrayVec;
 use std::alloc::{AllocError, Global};
 
-/// The number of bins, one for each first byte of a key.
-const BINS: usize = 256;
+/// The number of bins for keys that begin with two zeros, one for each value of the 14 bits after these.
+const ZERO_BINS: usize = 16384;
+
+/// The number of all bins: one more for each other value of a key's first two bytes.
+const BINS: usize = 81919;
 
 /// The bins of an index without keys.
 pub fn empty_bins(alloc: Global) -> Result<Vec<Bin>, AllocError>
-    ensures every { IfOk result (λ bins. length bins.items ≡ 256) }
+    ensures every { IfOk result (λ bins. length bins.items ≡ 81919) }
     ensures empty { IfOk result (λ bins. All (λ bin. bin ≡ []) bins.items) }
 {
     let mut bins = Vec::with_capacity(alloc, BINS)?;
@@ -25,15 +28,19 @@ pub fn empty_bins(alloc: Global) -> Result<Vec<Bin>, AllocError>
 /// The number of a key's bin.
 pub fn bin_of(key: &Key) -> usize
     ensures number { result ≡ bin_of key.now.0 }
-    ensures within { result < 256 }
+    ensures within { result < 81919 }
 {
-    usize::from(key.0[0])
+    let first = 256 * usize::from(key.0[0]) + usize::from(key.0[1]);
+    if first == 0 {
+        return 64 * usize::from(key.0[2]) + usize::from(key.0[3] / 4);
+    }
+    ZERO_BINS - 1 + first
 }
 
 /// The number of the first bin that may have a key above another.
 pub fn start_of(after: Option<&Key>) -> usize
     ensures number { result ≡ start_of (option_map (λ k. k.now.0) after.entry) }
-    ensures within { result < 256 }
+    ensures within { result < 81919 }
 {
     match after {
         Some(key) => bin_of(key),

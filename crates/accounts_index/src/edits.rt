@@ -11,6 +11,9 @@ use adb_model::{Key, Slot};
 use slot_list::{Place, SlotList, Version};
 use std::alloc::{AllocError, Global};
 
+/// Up to so many entries a bin takes the memory of one more alone, since most bins stay small.
+const FEW: usize = 4;
+
 /// Puts a version in, in place of the one that the key has in its slot.
 pub fn upsert(
     entries: &mut Vec<Entry>,
@@ -27,13 +30,13 @@ pub fn upsert(
 {
     match find_place(entries, key) {
         Ok(place) => {
-            let lists = &mut *entries[place].lists;
+            let lists = &mut entries[place].lists;
             lists.list.put(version)
         }
         Err(place) => {
             let mut list = SlotList::new(alloc);
             list.put(version)?;
-            insert(entries, alloc, place, *key, list, Vec::new(alloc))
+            insert(entries, place, *key, list, Vec::new(alloc))
         }
     }
 }
@@ -48,7 +51,7 @@ pub fn drop_version(entries: &mut Vec<Entry>, key: &Key, slot: Slot)
 {
     match find_place(entries, key) {
         Ok(place) => {
-            let lists = &mut *entries[place].lists;
+            let lists = &mut entries[place].lists;
             let _ = lists.list.take(slot);
             drop_unused(entries, place);
         }
@@ -67,10 +70,19 @@ fn drop_unused(entries: &mut Vec<Entry>, place: usize)
     }
 }
 
+/// Makes room for one entry more.
+fn make_room(entries: &mut Vec<Entry>) -> Result<(), AllocError>
+    ensures { entries.new.items ≡ entries.old.items }
+{
+    if entries.len() < FEW {
+        entries.reserve_exact(1)?;
+    }
+    Ok(())
+}
+
 /// A new entry at its place.
 fn insert(
     entries: &mut Vec<Entry>,
-    alloc: Global,
     place: usize,
     key: Key,
     list: SlotList,
@@ -85,7 +97,8 @@ fn insert(
         (record { versions = list.versions; held = list.held; expected = expected.items })) }
     ensures err { OnErr result (seen entries.new.items ≡ seen entries.old.items) }
 {
-    let lists = Box::new(alloc, Lists { list, expected })?;
+    make_room(entries)?;
+    let lists = Lists { list, expected };
     entries.insert(place, Entry { key, lists })?;
     Ok(())
 }
@@ -100,7 +113,7 @@ pub fn rehome(entries: &mut Vec<Entry>, key: &Key, slot: Slot, place: Place)
 {
     match find_place(entries, key) {
         Ok(found) => {
-            let lists = &mut *entries[found].lists;
+            let lists = &mut entries[found].lists;
             lists.list.rehome(slot, place);
         }
         Err(_) => unreachable!(),
@@ -122,7 +135,7 @@ pub fn expect(
 {
     match find_place(entries, key) {
         Ok(place) => {
-            let lists = &mut *entries[place].lists;
+            let lists = &mut entries[place].lists;
             lists.list.room(lists.expected.len() + 1)?;
             lists.expected.push(slot)?;
             Ok(())
@@ -132,7 +145,7 @@ pub fn expect(
             list.room(1)?;
             let mut expected = Vec::new(alloc);
             expected.push(slot)?;
-            insert(entries, alloc, place, *key, list, expected)
+            insert(entries, place, *key, list, expected)
         }
     }
 }
@@ -145,7 +158,7 @@ pub fn unexpect(entries: &mut Vec<Entry>, key: &Key, slot: Slot)
         IsWith (seen entries.old.items) (seen entries.new.items) key.now.0 (record old { expected = without_slot slot old.expected }) }
 {
     if let Ok(place) = find_place(entries, key) {
-        let lists = &mut *entries[place].lists;
+        let lists = &mut entries[place].lists;
         forget(&mut lists.expected, slot);
         drop_unused(entries, place);
     }
@@ -163,7 +176,7 @@ pub fn hold(entries: &mut Vec<Entry>, key: &Key, slot: Slot)
 {
     match find_place(entries, key) {
         Ok(place) => {
-            let lists = &mut *entries[place].lists;
+            let lists = &mut entries[place].lists;
             lists.list.hold(slot);
             forget(&mut lists.expected, slot);
         }
@@ -179,7 +192,7 @@ pub fn unhold(entries: &mut Vec<Entry>, key: &Key, slot: Slot)
         IsWith (seen entries.old.items) (seen entries.new.items) key.now.0 (record old { held = without_slot slot old.held }) }
 {
     if let Ok(place) = find_place(entries, key) {
-        let lists = &mut *entries[place].lists;
+        let lists = &mut entries[place].lists;
         let _ = lists.list.unhold(slot);
         drop_unused(entries, place);
     }

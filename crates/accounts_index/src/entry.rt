@@ -5,11 +5,11 @@ ghost use Rattle.accounts_index.specs.Index.{is_crowded, is_stored};
 use adb_model::Key;
 use slot_list::{Place, SlotList, Version};
 
-/// A key with what is kept of it, in a box: a search reads keys and an insertion moves entries, so these are small.
+/// A key with what is kept of it. A bin has few of them, so that an insertion moves little.
 #[derive(Drop)]
 pub struct Entry {
     pub key: Key,
-    pub lists: Box<Lists>,
+    pub lists: Lists,
 }
 
 /// What is kept of a key.
@@ -25,7 +25,7 @@ impl Entry {
 
     /// Whether anything is kept of the key.
     pub fn is_used(&self) -> bool
-        ensures { IsTrue result ↔ IsUsed self.now.lists.value }
+        ensures { IsTrue result ↔ IsUsed self.now.lists }
     {
         !self.lists.list.versions().is_empty()
             || !self.lists.list.held().is_empty()
@@ -33,14 +33,14 @@ impl Entry {
     }
 
     pub fn has_versions(&self) -> bool
-        ensures { result ≡ nat_lt 0 (length self.now.lists.value.list.versions) }
+        ensures { result ≡ nat_lt 0 (length self.now.lists.list.versions) }
     {
         !self.lists.list.versions().is_empty()
     }
 
     /// Whether the key has two or more versions, or a stored one that is a tomb.
     pub fn is_crowded(&self) -> bool
-        ensures { result ≡ is_crowded self.now.lists.value.list.versions }
+        ensures { result ≡ is_crowded self.now.lists.list.versions }
     {
         self.lists.list.versions().len() > 1 || has_stored_tomb(self.lists.list.versions())
     }

@@ -17,7 +17,7 @@ use std::sync::ledger::Ledger;
 /// Keys with what is kept of them: versions by slot, and the slots in which a key is held or expected to be.
 #[derive(Drop)]
 pub struct AccountsIndex {
-    /// By the first byte of their keys.
+    /// By the first bytes of their keys.
     bins: Vec<Bin>,
 }
 

@@ -1,13 +1,13 @@
 -- What a search by slot finds, and what an edit at that place does.
-use Rattle.std.proofs.Common.{◌≡◌, ℕ, suc, ◌+◌, ◌-◌, ◌<◌, ◌≤◌, List, ◌∷◌, ◌++◌, length, take, set, get_or, map, true, false, cond, not, eqb, ltb, Some, None, Result, Ok, Err, IfOk, IfErr, sym, ap, subst, ◌∙◌, inl, inr, arith, AllPairs, All}
-use Rattle.std.specs.List.{filter, find, insert, remove, list_any}
+use Rattle.std.proofs.Common.{◌≡◌, ℕ, suc, ◌+◌, ◌-◌, ◌<◌, ◌≤◌, List, ◌∷◌, ◌++◌, length, take, drop, set, get_or, map, true, false, cond, not, eqb, ltb, Some, None, Result, Ok, Err, IfOk, IfErr, sym, ap, subst, ◌∙◌, inl, inr, arith, AllPairs, All}
+use Rattle.std.specs.List.{filter, find, insert, remove, list_any, refill}
 use Rattle.std.specs.List.Sorted.{IsSearchInRange, IsBinarySearchResult, IsNonDecreasingBy, IsStrictlyIncreasing}
 use Rattle.std.specs.Ordering.{nat_cmp, ordering_index}
 use Rattle.std.proofs.lemmas.Bool.{cases_lt, lt-ltb, le-ltb, eq-eqb, ne_eqb}
 use Rattle.std.proofs.lemmas.Bool.Decides.{nat_tests}
 use Rattle.std.proofs.lemmas.Cmp.{ranked}
 use Rattle.std.proofs.lemmas.Grind.{common_steps}
-use Rattle.std.proofs.lemmas.List.{set_split}
+use Rattle.std.proofs.lemmas.List.{set_split, take_at, length-set}
 use Rattle.std.proofs.lemmas.List.Quantifiers.{all_pairs_remove}
 use Rattle.std.proofs.lemmas.List.Folds.{list_any_at, list_any_none}
 use Rattle.std.proofs.lemmas.List.Edits.{length-insert, get_or-insert_below, get_or-insert_at, get_or-insert_above}
@@ -132,6 +132,10 @@ module _ {X : Type 0} (slot_of : X → ℕ) where
         let here : (n : ℕ) → n ≡ i → at_new n ≡ slot = λ n is. rw is (ap slot_of (get_or-insert_at xs i x d gap.in_range) ∙ same) in
         let above : (n : ℕ) → i < n → at_new n ≡ at_old (n - 1) = λ n hi. subst (λ q. at_new q ≡ at_old (n - 1)) {x = n - 1 + 1} (omega arith) (ap slot_of (get_or-insert_above xs i x d (n - 1) (omega arith) gap.in_range)) in
         grind (arith, below k, here k, above k, below l, here l, above l, up k l d, up k (l - 1) d, up (k - 1) (l - 1) d, gap.lower_before k d, gap.higher_from (l - 1) d)
+
+-- what is left of a list that was lent, where one element was written
+pub written : {X : Type 0} (xs lent : List X) (i : ℕ) (x : X) → lent ≡ xs → refill (length xs) xs (set lent i x) ≡ set xs i x
+written xs lent i x same = rw same (take_at (set xs i x) (drop (length (set xs i x)) xs) (length xs) (length-set xs i x))
 
 -- rising slots, by neighbours
 pub IsStrictlyIncreasing-from_rising : (xs : List ℕ) → Rising (λ s. s) xs → IsStrictlyIncreasing xs

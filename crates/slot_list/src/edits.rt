@@ -7,18 +7,20 @@ ghost use Rattle.slot_list.specs.Versions.{at, put, without, rehomed, with_slot,
 
 use crate::search::{place_of, place_of_slot};
 use crate::{Place, Version};
+use smallvec::SmallVec;
 use std::alloc::AllocError;
 
 /// Puts a version at its place, in place of one of its slot.
-pub fn put_version(versions: &mut Vec<Version>, version: Version) -> Result<(), AllocError>
+pub fn put_version(versions: &mut SmallVec<Version, 1>, version: Version) -> Result<(), AllocError>
     requires { VersionsRise versions.old.items }
     ensures rise { VersionsRise versions.new.items }
     ensures ok { OnOk result (versions.new.items ≡ put version versions.old.items) }
     ensures err { OnErr result (versions.new.items ≡ versions.old.items) }
     ensures there { IsSome (at version.slot versions.old.items) → IsOk result }
 {
-    match place_of(versions, version.slot) {
+    match place_of(versions.as_slice(), version.slot) {
         Ok(place) => {
+            let versions = versions.as_mut_slice();
             versions[place] = version;
             Ok(())
         }
@@ -26,9 +28,9 @@ pub fn put_version(versions: &mut Vec<Version>, version: Version) -> Result<(), 
     }
 }
 
-/// A new version at its place. The first one takes the memory of one alone, since most keys have no more.
+/// A new version at its place.
 fn insert_version(
-    versions: &mut Vec<Version>,
+    versions: &mut SmallVec<Version, 1>,
     place: usize,
     version: Version,
 ) -> Result<(), AllocError>
@@ -36,21 +38,18 @@ fn insert_version(
     ensures ok { OnOk result (versions.new.items ≡ insert versions.old.items place version) }
     ensures err { OnErr result (versions.new.items ≡ versions.old.items) }
 {
-    if versions.is_empty() {
-        versions.reserve_exact(1)?;
-    }
     versions.insert(place, version)?;
     Ok(())
 }
 
 /// Takes the version of a slot out, and says whether there was one.
-pub fn take_version(versions: &mut Vec<Version>, slot: u64) -> bool
+pub fn take_version(versions: &mut SmallVec<Version, 1>, slot: u64) -> bool
     requires { VersionsRise versions.old.items }
     ensures rise { VersionsRise versions.new.items }
     ensures there { result ≡ is_some (at slot versions.old.items) }
     ensures items { versions.new.items ≡ without slot versions.old.items }
 {
-    match place_of(versions, slot) {
+    match place_of(versions.as_slice(), slot) {
         Ok(place) => {
             let _ = versions.remove(place);
             true
@@ -60,14 +59,17 @@ pub fn take_version(versions: &mut Vec<Version>, slot: u64) -> bool
 }
 
 /// Gives the version of a slot another place.
-pub fn rehome_version(versions: &mut Vec<Version>, slot: u64, place: Place)
+pub fn rehome_version(versions: &mut SmallVec<Version, 1>, slot: u64, place: Place)
     requires rise { VersionsRise versions.old.items }
     requires there { IsSome (at slot versions.old.items) }
     ensures rise { VersionsRise versions.new.items }
     ensures items { versions.new.items ≡ rehomed slot place versions.old.items }
 {
-    match place_of(versions, slot) {
-        Ok(found) => versions[found].place = place,
+    match place_of(versions.as_slice(), slot) {
+        Ok(found) => {
+            let versions = versions.as_mut_slice();
+            versions[found].place = place;
+        }
         Err(_) => unreachable!(),
     }
 }

@@ -7,6 +7,7 @@ ghost use Rattle.slot_list.specs.Versions.{at, put, without, rehomed, with_slot,
 use crate::edits::{put_slot, put_version, rehome_version, take_slot, take_version};
 use crate::search::{latest_of, version_at};
 use crate::{Place, Version};
+use smallvec::SmallVec;
 use std::alloc::{AllocError, Global};
 use std::marker::Model;
 use view_sets::RootSet;
@@ -14,7 +15,8 @@ use view_sets::RootSet;
 /// What is kept of one key: its versions by rising slot, and the slots in which it is held.
 #[derive(Drop)]
 pub struct SlotList {
-    versions: Vec<Version>,
+    /// The first one stands in the list itself, since most keys have no more.
+    versions: SmallVec<Version, 1>,
     held: Vec<u64>,
 }
 
@@ -42,7 +44,7 @@ impl SlotList {
         ensures held { result.held ≡ [] }
     {
         SlotList {
-            versions: Vec::new(alloc),
+            versions: SmallVec::new(alloc),
             held: Vec::new(alloc),
         }
     }
@@ -52,7 +54,7 @@ impl SlotList {
         ensures all { result.now ≡ self.now.versions }
         ensures rise { VersionsRise result.now }
     {
-        &self.versions
+        self.versions.as_slice()
     }
 
     /// The slots in which the key is held, rising.
@@ -67,7 +69,7 @@ impl SlotList {
     pub fn version(&self, slot: u64) -> Option<Version>
         ensures { result ≡ at slot self.now.versions }
     {
-        version_at(&self.versions, slot)
+        version_at(self.versions.as_slice(), slot)
     }
 
     /// The version that a view takes: of the greatest slot that is an ancestor, or a root up to `max_root`.
@@ -75,7 +77,7 @@ impl SlotList {
         requires { IsStrictlyIncreasing ancestors.now }
         ensures { IsLatest (sees ancestors.now roots.now max_root) self.now.versions result }
     {
-        latest_of(&self.versions, ancestors, roots, max_root)
+        latest_of(self.versions.as_slice(), ancestors, roots, max_root)
     }
 
     /// Puts a version in, in place of one of its slot. To replace one takes no memory.

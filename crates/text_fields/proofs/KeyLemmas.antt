@@ -1,13 +1,13 @@
 -- What `hex` reads and prints is what the definitions say of a 32-byte value.
-use Rattle.std.proofs.Common.{◌≡◌, ℕ, ◌+◌, ◌-◌, ◌*◌, ◌/◌, ◌<◌, ◌≤◌, leb, ◌&&◌, Bool, true, false, true≢false, suc, List, [], ◌∷◌, ◌++◌, length, take, drop, Some, None, Result, Ok, Err, refl, sym, ap, ap₂, subst, ◌∙◌, arith, inl, inr, length-take-le, length-drop}
-use Rattle.std.specs.Prelude.{◌==◌, replicate, reverse, slice_index, IsSome, is_some, MatchResult}
+use Rattle.std.proofs.Common.{◌≡◌, ℕ, ◌+◌, ◌-◌, ◌*◌, ◌/◌, ◌%◌, ◌<◌, ◌≤◌, leb, ◌&&◌, Bool, true, false, true≢false, suc, List, [], ◌∷◌, ◌++◌, length, take, drop, Some, None, Result, Ok, Err, refl, sym, ap, ap₂, subst, ◌∙◌, arith, inl, inr, length-take-le, length-drop}
+use Rattle.std.specs.Prelude.{◌==◌, codes, replicate, reverse, slice_index, IsSome, is_some, MatchResult}
 use Rattle.std.specs.List.{suffix_len}
 use Rattle.std.proofs.lemmas.Bool.{and_from, and_parts, cases_Bool, cases_lt, cond-true, cond-false, le-leb, leb-true, eqb-true}
 use Rattle.std.proofs.lemmas.List.{drop-replicate, length-take, get_or-reverse, get_or-take, get_or-drop, get_or_past, take-append-drop}
 use Rattle.std.proofs.lemmas.List.Sums.{prefix_len_passes, suffix_len-le-length}
-use Rattle.hex.specs.Hex.{IsBytes, decode_of, decode_sized, lower_digits}
+use Rattle.hex.specs.Hex.{IsBytes, encode_with, decode_of, decode_sized, lower_digits}
 use Rattle.hex.specs.declared.error.FromHexError.{FromHexError}
-use Rattle.hex.proofs.HexLemmas.{decode_of-digits, decode_of-encode_lower, decode_of-ok, decode_sized-ok, decode_sized-twice, length-encode_with}
+use Rattle.hex.proofs.HexLemmas.{decode_of-digits, decode_of-encode_lower, decode_of-odd, decode_of-ok, decode_sized-ok, decode_sized-twice, length-encode_with}
 use Rattle.text_fields.specs.Keys.{IsKeyWord, key_of, key_text, padded, padded_if_ok, printed_len}
 use Rattle.text_fields.specs.Laws.{KeyTextsAreKeys, KeyWordsAreKeys}
 
@@ -30,23 +30,43 @@ no_key w not = cond-false (has_room w) (padded_if_ok (decode_of w)) None not
 
 -- ---- reading
 
-key_from : (w out : List ℕ) (n : ℕ) (r : Result (Unit {0}) FromHexError) (u : Unit {0}) (d : Result (List ℕ) FromHexError) → decode_sized w n ≡ d
-    → MatchResult d (λ bytes. (r ≡ Ok tt) × (out ≡ bytes)) (λ e. r ≡ Err e) → r ≡ Ok u
+key_from : (w out : List ℕ) (n : ℕ) (r : Bool) (d : Result (List ℕ) FromHexError) → decode_sized w n ≡ d
+    → MatchResult d (λ bytes. (r ≡ true) × (out ≡ bytes)) (λ e. r ≡ false) → r ≡ true
     → n ≡ length w / 2 → 2 ≤ length w → length w ≤ 64 → Some (out ++ drop n (replicate 32 0)) ≡ key_of w
-key_from w out n r u (Ok bytes) is h ok half some most =
+key_from w out n r (Ok bytes) is h ok half some most =
     let twice : length w ≡ 2 * n = decode_sized-ok w n bytes is in
     let plain : decode_of w ≡ Ok bytes = sym (decode_sized-twice w n twice) ∙ is in
     let len : length w ≡ 2 * length bytes = (decode_of-ok w bytes plain).2 in
     let same : n ≡ length bytes = omega arith in
     let ends : out ++ drop n (replicate 32 0) ≡ padded bytes = rw (h.1, drop-replicate {X = ℕ} n 32 0, same) refl in
     ap (λ (k : List ℕ). Some k) ends ∙ sym (roomy_key w (room w some most) ∙ ap padded_if_ok plain)
-key_from w out n r u (Err e) is h ok half some most = absurd (cc (h, ok))
+key_from w out n r (Err e) is h ok half some most = absurd (true≢false (sym ok ∙ h))
 
 -- bytes that were decoded into the front of zeros
-pub key_decoded : (w out : List ℕ) (n : ℕ) (r : Result (Unit {0}) FromHexError) (u : Unit {0})
-    → MatchResult (decode_sized w n) (λ bytes. (r ≡ Ok tt) × (out ≡ bytes)) (λ e. r ≡ Err e) → r ≡ Ok u
+pub key_decoded : (w out : List ℕ) (n : ℕ) (r : Bool)
+    → MatchResult (decode_sized w n) (λ bytes. (r ≡ true) × (out ≡ bytes)) (λ e. r ≡ false) → r ≡ true
     → n ≡ length w / 2 → 2 ≤ length w → length w ≤ 64 → Some (out ++ drop n (replicate 32 0)) ≡ key_of w
-key_decoded w out n r u h ok half some most = key_from w out n r u (decode_sized w n) refl h ok half some most
+key_decoded w out n r h ok half some most = key_from w out n r (decode_sized w n) refl h ok half some most
+
+no_key_from : (w out : List ℕ) (n : ℕ) (r : Bool) (d : Result (List ℕ) FromHexError) → decode_sized w n ≡ d
+    → MatchResult d (λ bytes. (r ≡ true) × (out ≡ bytes)) (λ e. r ≡ false) → r ≡ false
+    → length w ≡ 2 * n → 2 ≤ length w → length w ≤ 64 → None ≡ key_of w
+no_key_from w out n r (Ok bytes) is h not twice some most = absurd (true≢false (sym h.0 ∙ not))
+no_key_from w out n r (Err e) is h not twice some most =
+    sym (roomy_key w (room w some most) ∙ ap padded_if_ok (sym (decode_sized-twice w n twice) ∙ is))
+
+-- digits that were not all read
+pub key_refused : (w out : List ℕ) (n : ℕ) (r : Bool)
+    → MatchResult (decode_sized w n) (λ bytes. (r ≡ true) × (out ≡ bytes)) (λ e. r ≡ false) → r ≡ false
+    → length w ≡ 2 * n → 2 ≤ length w → length w ≤ 64 → None ≡ key_of w
+key_refused w out n r h not twice some most = no_key_from w out n r (decode_sized w n) refl h not twice some most
+
+-- a word of an odd length
+pub key_odd : (w : List ℕ) → length w % 2 ≡ 1 → None ≡ key_of w
+key_odd w odd = elim (cases_Bool (has_room w)) [
+  | inl fits ↦ sym (roomy_key w fits ∙ ap padded_if_ok (decode_of-odd w odd))
+  | inr not ↦ sym (no_key w not)
+]
 
 some_if_ok : (r : Result (List ℕ) FromHexError) → is_some (padded_if_ok r) ≡ true → (bytes : List ℕ) × (r ≡ Ok bytes)
 some_if_ok (Ok bytes) e = (bytes, refl)
@@ -67,6 +87,13 @@ facts_key w h = ap is_some (roomy_key w (room w h.some h.most) ∙ ap padded_if_
 
 pub words_are_keys : KeyWordsAreKeys
 words_are_keys w = (key_facts w, facts_key w)
+
+-- ---- printing
+
+-- the text of zeros
+pub zeros_text : (k : List ℕ) → k ≡ replicate 32 0 → key_text k ≡ codes "00"
+unfolding key_text encode_with
+zeros_text k zeros = rw zeros refl
 
 -- ---- what is printed is read
 

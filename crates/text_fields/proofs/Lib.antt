@@ -1,3 +1,4 @@
 pub mod HexTextLemmas
 pub mod NumberLemmas
 pub mod KeyLemmas
+pub mod DigitLemmas

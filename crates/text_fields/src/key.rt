@@ -2,6 +2,7 @@ ghost use Rattle.std.specs.Prelude.{◌≡◌, ◌<◌, ◌≤◌, ◌++◌, len
 ghost use Rattle.std.specs.String.{string_bytes};
 ghost use Rattle.text_fields.specs.Keys as keys;
 
+use crate::hex_digits::read_pairs;
 use crate::hex_text::push_piece;
 use std::alloc::{AllocError, Global};
 
@@ -14,11 +15,15 @@ pub fn read_key(word: &[u8]) -> Option<[u8; 32]>
     if word.len() < 2 || word.len() > 64 {
         return None;
     }
+    if word.len() % 2 == 1 {
+        return None;
+    }
     let mut key = [0; 32];
     let half = word.len() / 2;
-    match hex::decode_to_slice(word, &mut key[..half]) {
-        Ok(()) => Some(key),
-        Err(_) => None,
+    if read_pairs(word, &mut key[..half]) {
+        Some(key)
+    } else {
+        None
     }
 }
 
@@ -48,6 +53,9 @@ pub fn push_key(text: &mut String, key: &[u8; 32]) -> Result<(), AllocError>
     ensures pushed { OnOk result (string_bytes text.new ≡ string_bytes text.old ++ keys.key_text key.now) }
     ensures kept { OnErr result (string_bytes text.new ≡ string_bytes text.old) }
 {
+    if *key == [0; 32] {
+        return text.push_str("00");
+    }
     let (printed, _) = key.split_at(printed_len(key));
     push_piece(text, printed)
 }

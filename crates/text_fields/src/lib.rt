@@ -3,9 +3,11 @@
 //! A script's line, a command's words and the names of a snapshot's files all have these two
 //! kinds of words. A number is read with leading zeros and printed without them; a 32-byte value
 //! is read from 2 to 64 hexadecimal digits of either case and printed in lower case, its trailing
-//! zero bytes cut. What is printed is read again as the same value.
+//! zero bytes cut. What is printed is read again as the same value. Bytes of any number are read and
+//! printed in hexadecimal, too.
 #![tactic(auto)]
 
+mod hex_digits;
 mod hex_text;
 mod key;
 mod laws;
@@ -13,6 +15,7 @@ mod number;
 #[cfg(test)]
 mod tests;
 
+pub use hex_digits::read_hex;
 pub use hex_text::push_hex;
 pub use key::{key_text, push_key, read_key};
 pub use laws::{

@@ -1,4 +1,4 @@
-use crate::{key_text, number_text, push_key, push_number, read_key, read_number};
+use crate::{key_text, number_text, push_key, push_number, read_hex, read_key, read_number};
 use std::alloc::{AllocError, Global};
 use std::test::Fail;
 
@@ -48,6 +48,19 @@ fn keys_are_read_and_printed(rt: HostRuntime) -> Result<(), Fail> {
     let mut text = String::from_str(alloc, "get ")?;
     push_key(&mut text, &[0; 32])?;
     assert!(rt; text.as_str() == "get 00");
+    Ok(())
+}
+
+#[test]
+fn bytes_are_read(rt: HostRuntime) -> Result<(), Fail> {
+    let alloc = rt.alloc();
+    for (word, bytes) in [("", [].as_slice()), ("00Ff7a", [0, 255, 122].as_slice())] {
+        let read = read_hex(alloc, word.as_bytes())?;
+        assert!(rt; read.is_some_and(|read| read.as_slice() == bytes), "{word}");
+    }
+    for word in ["0", "0g", "g0", "001"] {
+        assert!(rt; read_hex(alloc, word.as_bytes())?.is_none(), "{word}");
+    }
     Ok(())
 }
 

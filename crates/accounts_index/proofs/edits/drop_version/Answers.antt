@@ -15,12 +15,11 @@ returns-clause-kept c = λ q.
     let found = rw c.deref.ensures.value at c.in-Ok.ensures.found in
     let e = c.index_mut.result.now in
     let read = c.index_mut.ensures.value in
-    let lists = c.deref_mut-lists.result.now in
-    let inside = c.deref_mut-lists.ensures.value in
-    let now : Entry = record e { lists = record e.lists { value = record lists { list = c.take.new.self } } } in
+    let lists = e.lists in
+    let now : Entry = record e { lists = record lists { list = c.take.new.self } } in
     let made = ap (λ (l : KeySlots). kept_of (record lists { list = l })) c.take.ensures.list in
     c.drop_unused.ensures.kept q ∙ IsWith-to _ _ key _ _ (IsWith-write es key c.in-Ok.place found e read now refl)
-    (made ∙ ap (λ (k : Kept). record k { versions = without c.args.slot k.versions }) (sym (read_kept es key c.in-Ok.place found e read lists inside))) q
+    (made ∙ ap (λ (k : Kept). record k { versions = without c.args.slot k.versions }) (sym (read_kept es key c.in-Ok.place found e read))) q
 
 -- the key is there
 pub unreachable-requires : goal.unreachable-requires

@@ -16,11 +16,10 @@ returns-in_err-room-in-Ok-clause-err c =
     let found = rw c.deref.ensures.value at c.in-Ok.ensures.found in
     let e = c.index_mut.result.now in
     let read = c.index_mut.ensures.value in
-    let lists = c.deref_mut-lists.result.now in
-    let inside = c.deref_mut-lists.ensures.value in
-    let now : Entry = record e { lists = record e.lists { value = record lists { list = c.room.new.self } } } in
-    let same : kept_of now.lists.value ≡ kept_of lists = λ j. record { versions = c.room.ensures.versions j; held = c.room.ensures.held j; expected = lists.expected.items } in
-    on_err_any c.from_residual.result (seen_same es c.in-Ok.place e now found.in_range read refl (same ∙ ap kept_of inside))
+    let lists = e.lists in
+    let now : Entry = record e { lists = record lists { list = c.room.new.self } } in
+    let same : kept_of now.lists ≡ kept_of lists = λ j. record { versions = c.room.ensures.versions j; held = c.room.ensures.held j; expected = lists.expected.items } in
+    on_err_any c.from_residual.result (seen_same es c.in-Ok.place e now found.in_range read refl same)
 
 pub returns-in_err-push-in-Ok-clause-err : goal.returns-in_err-push-in-Ok-clause-err
 returns-in_err-push-in-Ok-clause-err c =
@@ -29,11 +28,10 @@ returns-in_err-push-in-Ok-clause-err c =
     let found = rw c.deref.ensures.value at c.in-Ok.ensures.found in
     let e = c.index_mut.result.now in
     let read = c.index_mut.ensures.value in
-    let lists = c.deref_mut-lists.result.now in
-    let inside = c.deref_mut-lists.ensures.value in
-    let now : Entry = record e { lists = record e.lists { value = record lists { list = c.room.new.self; expected = c.push.new.self } } } in
-    let same : kept_of now.lists.value ≡ kept_of lists = λ j. record { versions = c.room.ensures.versions j; held = c.room.ensures.held j; expected = c.in_err-push-in-Ok.ensures.items j } in
-    on_err_any c.from_residual-in_err-push-in-Ok.result (seen_same es c.in-Ok.place e now found.in_range read refl (same ∙ ap kept_of inside))
+    let lists = e.lists in
+    let now : Entry = record e { lists = record lists { list = c.room.new.self; expected = c.push.new.self } } in
+    let same : kept_of now.lists ≡ kept_of lists = λ j. record { versions = c.room.ensures.versions j; held = c.room.ensures.held j; expected = c.in_err-push-in-Ok.ensures.items j } in
+    on_err_any c.from_residual-in_err-push-in-Ok.result (seen_same es c.in-Ok.place e now found.in_range read refl same)
 
 pub returns-in_ok-push-in-Ok-clause-ok : goal.returns-in_ok-push-in-Ok-clause-ok
 returns-in_ok-push-in-Ok-clause-ok c =
@@ -42,12 +40,11 @@ returns-in_ok-push-in-Ok-clause-ok c =
     let found = rw c.deref.ensures.value at c.in-Ok.ensures.found in
     let e = c.index_mut.result.now in
     let read = c.index_mut.ensures.value in
-    let lists = c.deref_mut-lists.result.now in
-    let inside = c.deref_mut-lists.ensures.value in
-    let now : Entry = record e { lists = record e.lists { value = record lists { list = c.room.new.self; expected = c.push.new.self } } } in
+    let lists = e.lists in
+    let now : Entry = record e { lists = record lists { list = c.room.new.self; expected = c.push.new.self } } in
     IsWith-to _ _ key _ _ (IsWith-write es key c.in-Ok.place found e read now refl)
     ((λ j. record { versions = c.room.ensures.versions j; held = c.room.ensures.held j; expected = c.in_ok-push-in-Ok.ensures.items j })
-    ∙ ap (λ (k : Kept). record k { expected = k.expected ++ c.args.slot ∷ [] }) (sym (read_kept es key c.in-Ok.place found e read lists inside)))
+    ∙ ap (λ (k : Kept). record k { expected = k.expected ++ c.args.slot ∷ [] }) (sym (read_kept es key c.in-Ok.place found e read)))
 
 -- ---- the key is not there
 

@@ -16,10 +16,9 @@ hold-requires-clause-room c =
     let found = rw c.deref.ensures.value at c.in-Ok.ensures.found in
     let e = c.index_mut.result.now in
     let read = c.index_mut.ensures.value in
-    let lists = c.deref_mut-lists.result.now in
-    let inside = c.deref_mut-lists.ensures.value in
-    let expected = rw (read_kept es key c.in-Ok.place found e read lists inside) at c.requires.expected in
-    omega (arith, without_there c.args.slot lists.expected.items expected, read_room es key c.in-Ok.place found e read lists inside c.requires.entries)
+    let lists = e.lists in
+    let expected = rw (read_kept es key c.in-Ok.place found e read) at c.requires.expected in
+    omega (arith, without_there c.args.slot lists.expected.items expected, read_room es key c.in-Ok.place found e read c.requires.entries)
 
 pub hold-requires-clause-absent : goal.hold-requires-clause-absent
 hold-requires-clause-absent c =
@@ -28,9 +27,8 @@ hold-requires-clause-absent c =
     let found = rw c.deref.ensures.value at c.in-Ok.ensures.found in
     let e = c.index_mut.result.now in
     let read = c.index_mut.ensures.value in
-    let lists = c.deref_mut-lists.result.now in
-    let inside = c.deref_mut-lists.ensures.value in
-    rw (read_kept es key c.in-Ok.place found e read lists inside) at c.requires.absent
+    let lists = e.lists in
+    rw (read_kept es key c.in-Ok.place found e read) at c.requires.absent
 
 pub returns-clause-kept : goal.returns-clause-kept
 returns-clause-kept c =
@@ -39,13 +37,12 @@ returns-clause-kept c =
     let found = rw c.deref.ensures.value at c.in-Ok.ensures.found in
     let e = c.index_mut.result.now in
     let read = c.index_mut.ensures.value in
-    let lists = c.deref_mut-lists.result.now in
-    let inside = c.deref_mut-lists.ensures.value in
-    let now : Entry = record e { lists = record e.lists { value = record lists { list = c.hold.new.self; expected = c.forget.new.slots } } } in
+    let lists = e.lists in
+    let now : Entry = record e { lists = record lists { list = c.hold.new.self; expected = c.forget.new.slots } } in
     let made = ap (λ (l : KeySlots). kept_of (record lists { list = l; expected = c.forget.new.slots })) c.hold.ensures in
     let left = ap (λ (x : List _). record { versions = lists.list.versions; held = with_slot c.args.slot lists.list.held; expected = x }) c.forget.ensures in
     IsWith-to _ _ key _ _ (IsWith-write es key c.in-Ok.place found e read now refl)
-    (made ∙ left ∙ ap (λ (k : Kept). record k { held = with_slot c.args.slot k.held; expected = without_slot c.args.slot k.expected }) (sym (read_kept es key c.in-Ok.place found e read lists inside)))
+    (made ∙ left ∙ ap (λ (k : Kept). record k { held = with_slot c.args.slot k.held; expected = without_slot c.args.slot k.expected }) (sym (read_kept es key c.in-Ok.place found e read)))
 
 pub returns-clause-entries : goal.returns-clause-entries
 returns-clause-entries c =
@@ -54,12 +51,11 @@ returns-clause-entries c =
     let found = rw c.deref.ensures.value at c.in-Ok.ensures.found in
     let e = c.index_mut.result.now in
     let read = c.index_mut.ensures.value in
-    let lists = c.deref_mut-lists.result.now in
-    let inside = c.deref_mut-lists.ensures.value in
-    let expected = rw (read_kept es key c.in-Ok.place found e read lists inside) at c.requires.expected in
-    let now : Entry = record e { lists = record e.lists { value = record lists { list = c.hold.new.self; expected = c.forget.new.slots } } } in
-    let room : HasRoom now.lists.value = omega (arith, ap (λ (l : KeySlots). l.spare) c.hold.ensures, ap length c.forget.ensures, without_there c.args.slot lists.expected.items expected, read_room es key c.in-Ok.place found e read lists inside c.requires.entries) in
-    let used : IsUsed now.lists.value = omega (arith, ap (λ (l : KeySlots). length l.held) c.hold.ensures, some_with (filter (λ s. ltb s c.args.slot) lists.list.held) (filter (λ s. ltb c.args.slot s) lists.list.held) c.args.slot) in
+    let lists = e.lists in
+    let expected = rw (read_kept es key c.in-Ok.place found e read) at c.requires.expected in
+    let now : Entry = record e { lists = record lists { list = c.hold.new.self; expected = c.forget.new.slots } } in
+    let room : HasRoom now.lists = omega (arith, ap (λ (l : KeySlots). l.spare) c.hold.ensures, ap length c.forget.ensures, without_there c.args.slot lists.expected.items expected, read_room es key c.in-Ok.place found e read c.requires.entries) in
+    let used : IsUsed now.lists = omega (arith, ap (λ (l : KeySlots). length l.held) c.hold.ensures, some_with (filter (λ s. ltb s c.args.slot) lists.list.held) (filter (λ s. ltb c.args.slot s) lists.list.held) c.args.slot) in
     AreEntries-write es key c.in-Ok.place found e read now refl c.requires.entries room used
 
 -- the key is there

@@ -18,9 +18,8 @@ rehome-requires c =
     let found = rw c.deref.ensures.value at c.in-Ok.ensures.found in
     let e = c.index_mut.result.now in
     let read = c.index_mut.ensures.value in
-    let lists = c.deref_mut-lists.result.now in
-    let inside = c.deref_mut-lists.ensures.value in
-    rw (read_kept es key c.in-Ok.found found e read lists inside) at c.requires.there
+    let lists = e.lists in
+    rw (read_kept es key c.in-Ok.found found e read) at c.requires.there
 
 pub returns-clause-kept : goal.returns-clause-kept
 returns-clause-kept c =
@@ -29,12 +28,11 @@ returns-clause-kept c =
     let found = rw c.deref.ensures.value at c.in-Ok.ensures.found in
     let e = c.index_mut.result.now in
     let read = c.index_mut.ensures.value in
-    let lists = c.deref_mut-lists.result.now in
-    let inside = c.deref_mut-lists.ensures.value in
-    let now : Entry = record e { lists = record e.lists { value = record lists { list = c.rehome.new.self } } } in
+    let lists = e.lists in
+    let now : Entry = record e { lists = record lists { list = c.rehome.new.self } } in
     let made = ap (λ (l : KeySlots). kept_of (record lists { list = l })) c.rehome.ensures in
     IsWith-to _ _ key _ _ (IsWith-write es key c.in-Ok.found found e read now refl)
-    (made ∙ ap (λ (k : Kept). record k { versions = rehomed c.args.slot c.args.place k.versions }) (sym (read_kept es key c.in-Ok.found found e read lists inside)))
+    (made ∙ ap (λ (k : Kept). record k { versions = rehomed c.args.slot c.args.place k.versions }) (sym (read_kept es key c.in-Ok.found found e read)))
 
 pub returns-clause-entries : goal.returns-clause-entries
 returns-clause-entries c =
@@ -43,11 +41,10 @@ returns-clause-entries c =
     let found = rw c.deref.ensures.value at c.in-Ok.ensures.found in
     let e = c.index_mut.result.now in
     let read = c.index_mut.ensures.value in
-    let lists = c.deref_mut-lists.result.now in
-    let inside = c.deref_mut-lists.ensures.value in
-    let now : Entry = record e { lists = record e.lists { value = record lists { list = c.rehome.new.self } } } in
-    let room : HasRoom now.lists.value = omega (arith, ap (λ (l : KeySlots). l.spare) c.rehome.ensures, read_room es key c.in-Ok.found found e read lists inside c.requires.entries) in
-    let used : IsUsed now.lists.value = omega (arith, ap (λ (l : KeySlots). length l.versions + length l.held) c.rehome.ensures, length-map lists.list.versions (λ (v : Version). cond (eqb v.slot c.args.slot) (record v { place = c.args.place }) v), read_used es key c.in-Ok.found found e read lists inside c.requires.entries) in
+    let lists = e.lists in
+    let now : Entry = record e { lists = record lists { list = c.rehome.new.self } } in
+    let room : HasRoom now.lists = omega (arith, ap (λ (l : KeySlots). l.spare) c.rehome.ensures, read_room es key c.in-Ok.found found e read c.requires.entries) in
+    let used : IsUsed now.lists = omega (arith, ap (λ (l : KeySlots). length l.versions + length l.held) c.rehome.ensures, length-map lists.list.versions (λ (v : Version). cond (eqb v.slot c.args.slot) (record v { place = c.args.place }) v), read_used es key c.in-Ok.found found e read c.requires.entries) in
     AreEntries-write es key c.in-Ok.found found e read now refl c.requires.entries room used
 
 -- the key is there

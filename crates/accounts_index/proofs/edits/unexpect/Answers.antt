@@ -14,10 +14,9 @@ drop_unused-requires c =
     let found = rw c.deref.ensures.value at c.in-Ok.ensures.found in
     let e = c.index_mut.result.now in
     let read = c.index_mut.ensures.value in
-    let lists = c.deref_mut-lists.result.now in
-    let inside = c.deref_mut-lists.ensures.value in
-    let now : Entry = record e { lists = record e.lists { value = record lists { expected = c.forget.new.slots } } } in
-    let room : HasRoom now.lists.value = omega (arith, ap length c.forget.ensures, without_le c.args.slot lists.expected.items, read_room es key c.in-Ok.place found e read lists inside c.requires) in
+    let lists = e.lists in
+    let now : Entry = record e { lists = record lists { expected = c.forget.new.slots } } in
+    let room : HasRoom now.lists = omega (arith, ap length c.forget.ensures, without_le c.args.slot lists.expected.items, read_room es key c.in-Ok.place found e read c.requires) in
     AreEntriesBut-write es key c.in-Ok.place found e read now refl c.requires room
 
 pub returns-in-Ok-clause-kept : goal.returns-in-Ok-clause-kept
@@ -27,12 +26,11 @@ returns-in-Ok-clause-kept c = λ q.
     let found = rw c.deref.ensures.value at c.in-Ok.ensures.found in
     let e = c.index_mut.result.now in
     let read = c.index_mut.ensures.value in
-    let lists = c.deref_mut-lists.result.now in
-    let inside = c.deref_mut-lists.ensures.value in
-    let now : Entry = record e { lists = record e.lists { value = record lists { expected = c.forget.new.slots } } } in
+    let lists = e.lists in
+    let now : Entry = record e { lists = record lists { expected = c.forget.new.slots } } in
     let made = ap (λ (x : List _). record { versions = lists.list.versions; held = lists.list.held; expected = x }) c.forget.ensures in
     c.drop_unused.ensures.kept q ∙ IsWith-to _ _ key _ _ (IsWith-write es key c.in-Ok.place found e read now refl)
-    (made ∙ ap (λ (k : Kept). record k { expected = without_slot c.args.slot k.expected }) (sym (read_kept es key c.in-Ok.place found e read lists inside))) q
+    (made ∙ ap (λ (k : Kept). record k { expected = without_slot c.args.slot k.expected }) (sym (read_kept es key c.in-Ok.place found e read))) q
 
 -- the key is not there, and nothing is kept of it
 pub returns-in_default-clause-kept : goal.returns-in_default-clause-kept

@@ -13,13 +13,12 @@ returns-in-Ok-clause-kept c = λ q.
     let found = rw c.deref.ensures.value at c.in-Ok.ensures.found in
     let e = c.index_mut.result.now in
     let read = c.index_mut.ensures.value in
-    let lists = c.deref_mut-lists.result.now in
-    let inside = c.deref_mut-lists.ensures.value in
-    let now : Entry = record e { lists = record e.lists { value = record lists { list = c.unhold.new.self } } } in
+    let lists = e.lists in
+    let now : Entry = record e { lists = record lists { list = c.unhold.new.self } } in
     let made = ap (λ (x : List _). record { versions = c.unhold.new.self.versions; held = x; expected = lists.expected.items }) c.unhold.ensures.held
     ∙ ap (λ (x : List _). record { versions = x; held = without_slot c.args.slot lists.list.held; expected = lists.expected.items }) c.unhold.ensures.versions in
     c.drop_unused.ensures.kept q ∙ IsWith-to _ _ key _ _ (IsWith-write es key c.in-Ok.place found e read now refl)
-    (made ∙ ap (λ (k : Kept). record k { held = without_slot c.args.slot k.held }) (sym (read_kept es key c.in-Ok.place found e read lists inside))) q
+    (made ∙ ap (λ (k : Kept). record k { held = without_slot c.args.slot k.held }) (sym (read_kept es key c.in-Ok.place found e read))) q
 
 -- the key is not there, and nothing is kept of it
 pub returns-in_default-clause-kept : goal.returns-in_default-clause-kept

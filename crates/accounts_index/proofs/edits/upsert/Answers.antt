@@ -18,13 +18,12 @@ returns-in-Ok-clause-ok c =
     let found = rw c.deref.ensures.value at c.in-Ok.ensures.found in
     let e = c.index_mut.result.now in
     let read = c.index_mut.ensures.value in
-    let lists = c.deref_mut-lists.result.now in
-    let inside = c.deref_mut-lists.ensures.value in
-    let now : Entry = record e { lists = record e.lists { value = record lists { list = c.put.new.self } } } in
+    let lists = e.lists in
+    let now : Entry = record e { lists = record lists { list = c.put.new.self } } in
     on_ok_weaker c.put.result (λ made.
     IsWith-to _ _ key _ _ (IsWith-write es key c.in-Ok.place found e read now refl)
     (ap (λ (l : KeySlots). kept_of (record lists { list = l })) made
-    ∙ ap (λ (k : Kept). record k { versions = put c.args.version k.versions }) (sym (read_kept es key c.in-Ok.place found e read lists inside)))) c.put.ensures.ok
+    ∙ ap (λ (k : Kept). record k { versions = put c.args.version k.versions }) (sym (read_kept es key c.in-Ok.place found e read)))) c.put.ensures.ok
 
 pub returns-in-Ok-clause-err : goal.returns-in-Ok-clause-err
 returns-in-Ok-clause-err c =
@@ -32,11 +31,11 @@ returns-in-Ok-clause-err c =
     let found = rw c.deref.ensures.value at c.in-Ok.ensures.found in
     let e = c.index_mut.result.now in
     let read = c.index_mut.ensures.value in
-    let lists = c.deref_mut-lists.result.now in
-    let now : Entry = record e { lists = record e.lists { value = record lists { list = c.put.new.self } } } in
+    let lists = e.lists in
+    let now : Entry = record e { lists = record lists { list = c.put.new.self } } in
     on_err_weaker c.put.result (λ same.
     seen_same es c.in-Ok.place e now found.in_range read refl
-    (ap (λ (l : KeySlots). kept_of (record lists { list = l })) same ∙ ap kept_of c.deref_mut-lists.ensures.value)) c.put.ensures.err
+    (ap (λ (l : KeySlots). kept_of (record lists { list = l })) same)) c.put.ensures.err
 
 pub returns-in-Ok-clause-replaces : goal.returns-in-Ok-clause-replaces
 returns-in-Ok-clause-replaces c =
@@ -45,9 +44,8 @@ returns-in-Ok-clause-replaces c =
     let found = rw c.deref.ensures.value at c.in-Ok.ensures.found in
     let e = c.index_mut.result.now in
     let read = c.index_mut.ensures.value in
-    let lists = c.deref_mut-lists.result.now in
-    let inside = c.deref_mut-lists.ensures.value in
-    rw (read_kept es key c.in-Ok.place found e read lists inside) c.put.ensures.replaces
+    let lists = e.lists in
+    rw (read_kept es key c.in-Ok.place found e read) c.put.ensures.replaces
 
 pub returns-in-Ok-clause-entries : goal.returns-in-Ok-clause-entries
 returns-in-Ok-clause-entries c =
@@ -56,14 +54,13 @@ returns-in-Ok-clause-entries c =
     let found = rw c.deref.ensures.value at c.in-Ok.ensures.found in
     let e = c.index_mut.result.now in
     let read = c.index_mut.ensures.value in
-    let lists = c.deref_mut-lists.result.now in
-    let inside = c.deref_mut-lists.ensures.value in
-    let now : Entry = record e { lists = record e.lists { value = record lists { list = c.put.new.self } } } in
-    let had_room = read_room es key c.in-Ok.place found e read lists inside c.requires in
-    let room : HasRoom now.lists.value = either c.put.result c.put.ensures.ok c.put.ensures.err
+    let lists = e.lists in
+    let now : Entry = record e { lists = record lists { list = c.put.new.self } } in
+    let had_room = read_room es key c.in-Ok.place found e read c.requires in
+    let room : HasRoom now.lists = either c.put.result c.put.ensures.ok c.put.ensures.err
     (λ made. omega (arith, ap (λ (l : KeySlots). l.spare) made, had_room)) (λ same. omega (arith, ap (λ (l : KeySlots). l.spare) same, had_room)) in
-    let had_use = read_used es key c.in-Ok.place found e read lists inside c.requires in
-    let used : IsUsed now.lists.value = either c.put.result c.put.ensures.ok c.put.ensures.err
+    let had_use = read_used es key c.in-Ok.place found e read c.requires in
+    let used : IsUsed now.lists = either c.put.result c.put.ensures.ok c.put.ensures.err
     (λ made. omega (arith, ap (λ (l : KeySlots). length l.versions) made, some_with (filter (λ v. ltb v.slot c.args.version.slot) lists.list.versions) (filter (λ v. ltb c.args.version.slot v.slot) lists.list.versions) c.args.version))
     (λ same. omega (arith, ap (λ (l : KeySlots). length l.versions + length l.held) same, had_use)) in
     AreEntries-write es key c.in-Ok.place found e read now refl c.requires room used

@@ -1,10 +1,18 @@
-use Rattle.std.proofs.Common.{ℕ, ◌/◌, ◌≤◌, length, refl, arith}
+use Rattle.std.proofs.Common.{ℕ, ◌/◌, ◌≤◌, length, arith, refl}
 use Rattle.std.proofs.Math.ListN.{replicate}
 use Rattle.std.proofs.lemmas.List.{length-take-le}
-use Rattle.text_fields.proofs.KeyLemmas.{key_decoded}
+use Rattle.text_fields.proofs.KeyLemmas.{key_decoded, key_refused, key_odd}
 use Rattle.text_fields.proofs.key.read_key.Goals as goal
 
-pub returns-in-Ok : goal.returns-in-Ok
-returns-in-Ok c =
+pub returns-then-word-eq1 : goal.returns-then-word-eq1
+returns-then-word-eq1 c = key_odd c.args.word.now (omega arith)
+
+pub returns-then-read_pairs : goal.returns-then-read_pairs
+returns-then-read_pairs c =
     let le : length c.args.word.now / 2 ≤ 32 = omega arith in
-    key_decoded c.args.word.now c.decode_to_slice.new.out (length c.args.word.now / 2) c.decode_to_slice.result c.in-Ok.field-0 (rw (length-take-le {A = ℕ} (length c.args.word.now / 2) (replicate 32 0) le) at c.decode_to_slice.ensures.value) c.in-Ok.is refl c.if-word-lt2.false c.if-word-gt64.false
+    key_decoded c.args.word.now c.read_pairs.new.out (length c.args.word.now / 2) c.read_pairs.result (rw (length-take-le {A = ℕ} (length c.args.word.now / 2) (replicate 32 0) le) at c.read_pairs.ensures) c.if-read_pairs.true refl (omega arith) (omega arith)
+
+pub returns-else-read_pairs : goal.returns-else-read_pairs
+returns-else-read_pairs c =
+    let le : length c.args.word.now / 2 ≤ 32 = omega arith in
+    key_refused c.args.word.now c.read_pairs.new.out (length c.args.word.now / 2) c.read_pairs.result (rw (length-take-le {A = ℕ} (length c.args.word.now / 2) (replicate 32 0) le) at c.read_pairs.ensures) c.if-read_pairs.false (omega arith) (omega arith) (omega arith)
