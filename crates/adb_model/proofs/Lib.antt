@@ -58,6 +58,8 @@ pub mod FlushEndCounts
 pub mod FlushDrops
 pub mod Within
 pub mod PinCounts
+pub mod OwnPins
+pub mod FlushesStay
 pub mod RowBytes
 pub mod NamedRows
 mod PlayedValues

@@ -28,3 +28,4 @@ pub mod Laws
 pub mod Inside
 pub mod Seen
 pub mod RowBytes
+pub mod Passing

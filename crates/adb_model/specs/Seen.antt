@@ -44,6 +44,10 @@ call_of (calls.Store slot key account) = machine.Store slot key.0 account.value
 call_of (calls.Root slot) = machine.Root slot
 call_of (calls.Purge slot) = machine.Purge slot
 call_of (calls.Load view key) = machine.Load view key.0
+call_of (calls.Unpin id) = machine.Unpin id
+call_of (calls.FlushBegin slot) = machine.FlushBegin slot
+call_of (calls.FlushEnd slot) = machine.FlushEnd slot
+call_of (calls.FlushAbort slot) = machine.FlushAbort slot
 call_of calls.Stats = machine.Stats
 
 -- the machine's place
@@ -58,6 +62,14 @@ refusal_of (refusals.RootOrder slot newest) = machine.RootOrder slot newest
 refusal_of (refusals.Rooted slot) = machine.Rooted slot
 refusal_of (refusals.ViewTooOld max_root cleaned) = machine.ViewTooOld max_root cleaned
 refusal_of (refusals.TooManyPins most) = machine.TooManyPins most
+refusal_of (refusals.NotPinned id) = machine.NotPinned id
+refusal_of (refusals.NotRooted slot) = machine.NotRooted slot
+refusal_of (refusals.NothingCached slot) = machine.NothingCached slot
+refusal_of (refusals.Flushing slot id) = machine.Flushing slot id
+refusal_of (refusals.NotFlushing slot) = machine.NotFlushing slot
+refusal_of (refusals.Full used wanted limit) = machine.Full used wanted limit
+refusal_of (refusals.NoCell limit) = machine.NoCell limit
+refusal_of refusals.IdsSpent = machine.IdsSpent
 
 -- the machine's counts
 abbrev pub counts_of : Stats → machine.Counts
@@ -79,6 +91,7 @@ reply_of (replies.Refused refusal) = machine.Refused (refusal_of refusal)
 reply_of (replies.Purged keys) = machine.Purged keys
 reply_of replies.NotFound = machine.NotFound
 reply_of (replies.Found slot place account) = machine.Found slot (place_of place) account.value
+reply_of (replies.FlushBegun id bytes) = machine.FlushBegun id bytes
 reply_of (replies.Counted stats) = machine.Counted (counts_of stats)
 
 -- the machine's event

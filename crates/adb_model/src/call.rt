@@ -28,6 +28,22 @@ pub enum Call {
         view: View,
         key: Key,
     },
+    /// Give back a pin of a storage.
+    Unpin {
+        id: u64,
+    },
+    /// Begin a flush: take a storage that the slot's cached accounts are to be written to.
+    FlushBegin {
+        slot: Slot,
+    },
+    /// End a flush: loads are answered from its storage from now on.
+    FlushEnd {
+        slot: Slot,
+    },
+    /// Give up a flush, and its storage.
+    FlushAbort {
+        slot: Slot,
+    },
     /// Count what the store has.
     Stats,
 }
@@ -54,6 +70,22 @@ pub enum Refusal {
     ViewTooOld { max_root: u64, cleaned: Slot },
     /// A load by a pass that has as many pins as a pass may have.
     TooManyPins { most: u64 },
+    /// The pass has no pin of this storage.
+    NotPinned { id: u64 },
+    /// A flush of a slot that is no root.
+    NotRooted { slot: Slot },
+    /// A flush of a slot without stores, or of one that is flushed.
+    NothingCached { slot: Slot },
+    /// A flush of a slot whose flush into the storage with this id is open.
+    Flushing { slot: Slot, id: u64 },
+    /// The end of a flush that isn't open, or an abort of one.
+    NotFlushing { slot: Slot },
+    /// The storages have so many bytes, and with the wanted ones they would have more than they may.
+    Full { used: u64, wanted: u128, limit: u64 },
+    /// There are as many storages as there may be.
+    NoCell { limit: u64 },
+    /// No id is left for one more storage.
+    IdsSpent,
 }
 
 /// What the store has at one time.
@@ -98,6 +130,11 @@ pub enum Reply {
         place: Place,
         account: Arc<Account>,
     },
+    /// A flush began, into the storage with this id, which has so many bytes.
+    FlushBegun {
+        id: u64,
+        bytes: u64,
+    },
     /// What the store has.
     Counted {
         stats: Stats,
@@ -131,6 +168,10 @@ impl Call {
                 view: view.try_copy(alloc)?,
                 key: *key,
             }),
+            Call::Unpin { id } => Ok(Call::Unpin { id: *id }),
+            Call::FlushBegin { slot } => Ok(Call::FlushBegin { slot: *slot }),
+            Call::FlushEnd { slot } => Ok(Call::FlushEnd { slot: *slot }),
+            Call::FlushAbort { slot } => Ok(Call::FlushAbort { slot: *slot }),
             Call::Stats => Ok(Call::Stats),
         }
     }

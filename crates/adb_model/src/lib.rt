@@ -11,6 +11,7 @@ mod effects;
 mod flushing;
 mod key;
 mod laws;
+mod passing;
 mod pinning;
 mod plain;
 mod view;
@@ -30,6 +31,7 @@ pub use laws::{
     leased_views_are_answered, named_pairs_stand_once, nothing_returns, one_history_plays,
     present_pairs_answer, states_are_sound, stored_places_stand,
 };
+pub use passing::{flushes_stay_open, loads_are_given_back, pins_are_own};
 pub use pinning::{pinned_storages_stand, pins_follow};
 pub use plain::plain_answer;
 pub use view::{MAX_ANCESTORS, View, ViewFault};
