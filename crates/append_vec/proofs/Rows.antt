@@ -16,9 +16,9 @@ use Rattle.adb_model.specs.State.{Row}
 use Rattle.adb_model.specs.declared.key.Key.{Key}
 use Rattle.account_layout.specs.Written.{written_record}
 use Rattle.vec_scan.specs.Image.{Image, Placed}
-use Rattle.vec_scan.specs.Seal.{offsets_of, row_at}
+use Rattle.vec_scan.specs.Seal.{offsets_of, row_at, rows_in, row_there}
 use Rattle.vec_scan.specs.Written.{IsWritableRow, IsWritten, written_image, written_rows}
-use Rattle.append_vec.specs.Filled.{row_of, rows_of, rows_in, row_there, total_size, Fills, InOrder}
+use Rattle.append_vec.specs.Filled.{row_of, rows_of, total_size, Fills, InOrder}
 
 abbrev Given : Type 0
 Given = Key × Arc machine.Account Global

@@ -1,13 +1,13 @@
 -- What a filled image has: each account once, at its place.
-use Rattle.std.specs.Prelude.{◌≡◌, ◌≢◌, ℕ, List, map, Option, Some, option_map, sum_by, AllPairs}
+use Rattle.std.specs.Prelude.{◌≡◌, ◌≢◌, ℕ, List, map, Some, sum_by, AllPairs}
 use Rattle.std.specs.Global.{Global}
 use Rattle.std.specs.List.Sorted.{IsPermutation}
 use Rattle.std.specs.declared.sync.Arc.{Arc}
 use Rattle.adb_model.specs.Account as machine
 use Rattle.adb_model.specs.State.{Row}
 use Rattle.adb_model.specs.declared.key.Key.{Key}
-use Rattle.vec_scan.specs.Image.{Image, Placed}
-use Rattle.vec_scan.specs.Seal.{offsets_of, row_at}
+use Rattle.vec_scan.specs.Image.{Image}
+use Rattle.vec_scan.specs.Seal.{offsets_of, rows_in, row_there}
 use Rattle.vec_scan.specs.Written.{written_image, written_rows}
 
 -- a key and its account, as a row
@@ -24,14 +24,6 @@ KeysDiffer rows = AllPairs (λ a b. a.key ≢ b.key) rows
 -- the bytes that the records of rows take
 abbrev pub total_size : List Row → ℕ
 total_size rows = sum_by (λ row. machine.size row.account) rows
-
--- the rows of an image, without their places
-abbrev pub rows_in : Image → List Row
-rows_in image = map (λ placed. placed.row) image.rows
-
--- the row that stands at a place of an image
-abbrev pub row_there : List Placed → ℕ → Option Row
-row_there placed place = option_map (λ p. p.row) (row_at placed place)
 
 -- the image is written of these rows in some order, each once, and each place is that of its row
 pub record Fills (slot id : ℕ) (rows : List Row) (image : Image) (places : List ℕ) : Type 0 where

@@ -5,8 +5,10 @@
 #![tactic(auto)]
 
 mod filling;
+mod laws;
 
 pub use filling::{Filled, fill};
+pub use laws::filled_rows_are_the_same;
 
 #[cfg(test)]
 mod tests;

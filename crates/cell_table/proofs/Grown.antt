@@ -1,8 +1,8 @@
 -- What one more free cell leaves of a table.
 use Rattle.std.proofs.Common.{◌≡◌, ℕ, zero, suc, ◌+◌, ◌-◌, ◌<◌, ◌≤◌, List, [], ◌∷◌, ◌++◌, length, get_or, Bool, true, false, Option, Some, sum_by, count_by, refl, sym, ap, subst, ◌∙◌, inl, inr, arith, length-append}
-use Rattle.std.specs.Prelude.{◌↔◌}
+use Rattle.std.specs.Prelude.{◌↔◌, ◌==◌}
 use Rattle.std.proofs.Common.{Result, Ok, Err, OnOk, OnErr, is_err}
-use Rattle.std.proofs.lemmas.Bool.{false≢true}
+use Rattle.std.proofs.lemmas.Bool.{false≢true, true≢false}
 use Rattle.cell_table.specs.declared.table.CellFault.{CellFault}
 use Rattle.cell_table.specs.declared.table.CellFault.TheVariants.{Full, NoCell, NoMemory}
 use Rattle.std.proofs.Math.Seq.{get_or-append_seam}
@@ -10,12 +10,12 @@ use Rattle.std.proofs.lemmas.List.Sums.{sum_by-append}
 use Rattle.cell_table.specs.declared.phase.Phase.{Phase}
 use Rattle.cell_table.specs.declared.phase.Phase.TheVariants.{Free, Filling, Live, Retired}
 use Rattle.cell_table.specs.declared.table.Counts.{Counts}
-use Rattle.cell_table.specs.Phases.{has_id, bytes_of, pins_of, is_free, is_filling, is_live, is_retired, is_idle}
+use Rattle.cell_table.specs.Phases.{has_id, id_of, cell_id, bytes_of, pins_of, is_free, is_filling, is_live, is_retired, is_idle}
 use Rattle.cell_table.specs.Cells.{Table, cell_at, used, counts_of, IsCause}
 use Rattle.cell_table.specs.Inside.{all_cells, ArePlaces, IsSound, Grows, IsLack}
 use Rattle.cell_table.proofs.Padded.{cell_at-behind, length-all, free-all, grown-all}
-use Rattle.cell_table.proofs.Changes.{one_if}
-use Rattle.cell_table.proofs.Sound.{counts_path}
+use Rattle.cell_table.proofs.Changes.{one_if, eq_when}
+use Rattle.cell_table.proofs.Sound.{counts_path, sum_seen}
 
 module _ {T : Type 0} (cells : List (Phase T)) where
   abbrev grown : List (Phase T)
@@ -62,6 +62,9 @@ module _ {T : Type 0} (cells : List (Phase T)) where
       tally = sound.tally ∙ counts_grown;
     })
 
+pub some_when : (n : ℕ) → (n == 0) ≡ false → 0 < n
+some_when n e = grind arith
+
 -- a fact stands after any error
 pub on_err_any : {X E P : Type 0} (r : Result X E) → P → OnErr r P
 on_err_any (Ok x) p = tt
@@ -82,6 +85,18 @@ module _ {T : Type 0} where
   free_is (Live id b pins value) is = absurd (false≢true is)
   free_is (Retired id b pins value) is = absurd (false≢true is)
 
+  pub cell_id-in_use : (p : Phase T) → is_free p ≡ false → cell_id p ≡ Some (id_of p)
+  cell_id-in_use Free is = absurd (true≢false is)
+  cell_id-in_use (Filling id b) is = refl
+  cell_id-in_use (Live id b pins value) is = refl
+  cell_id-in_use (Retired id b pins value) is = refl
+
+  pub has_id-in_use : (p : Phase T) → is_free p ≡ false → (id : ℕ) → id ≡ id_of p → has_id id p ≡ true
+  has_id-in_use Free is id same = absurd (true≢false is)
+  has_id-in_use (Filling own b) is id same = eq_when own id (sym same)
+  has_id-in_use (Live own b pins value) is id same = eq_when own id (sym same)
+  has_id-in_use (Retired own b pins value) is id same = eq_when own id (sym same)
+
   -- the table that contracts see, after it may have grown
   module _ (table : Table T) (most limit : ℕ) (cells : List (Phase T)) (view : record { cells = all_cells most cells; limit = limit } ≡ table) (few : length cells ≤ most) where
     pub length_seen : length table.cells ≡ most
@@ -90,8 +105,17 @@ module _ {T : Type 0} where
     pub free_seen : count_by is_free table.cells ≡ count_by is_free cells + (most - length cells)
     free_seen = sym (ap (λ (t : Table T). count_by is_free t.cells) view) ∙ free-all most cells (λ c. one_if (is_free c)) refl few
 
+    pub free_now : (free : List ℕ) → ArePlaces is_free cells free → count_by is_free table.cells ≡ length free + (most - length cells)
+    free_now free places = omega (arith, free_seen, places.every)
+
     pub view-grows : (free new_free : List ℕ) (new_cells : List (Phase T)) → Grows most cells free new_cells new_free → record { cells = all_cells most new_cells; limit = limit } ≡ table
     view-grows free new_free new_cells grows = (λ j. record { cells = all_cells-grows cells most free new_cells new_free grows j; limit = limit }) ∙ view
+
+    pub full_cause : (bytes : ℕ) → bytes ≡ used cells → (wanted : ℕ) (fault : CellFault) → (fault ≡ Full bytes wanted limit) × (limit < bytes + wanted) → IsCause table wanted fault
+    full_cause bytes total wanted fault (is, above) =
+        let all = total ∙ sym (sum_seen table most limit cells view bytes_of refl) in
+        let same = ap (λ (t : Table T). t.limit) view in
+        rw is (all, refl, same, above)
 
     -- why no free cell is at hand is why the call is refused
     pub lack_cause : (free : List ℕ) → ArePlaces is_free cells free → (bytes : ℕ) → used table.cells + bytes ≤ table.limit → (fault : CellFault) → IsLack most cells free fault → IsCause table bytes fault

@@ -43,6 +43,10 @@ module _ {T : Type 0} where
     pub fits : used old.cells + bytes ≤ old.limit
     pub now : new ≡ record old { cells = slice_set old.cells cell (Filling id bytes) }
 
+  -- so many bytes fit, and a cell is free
+  abbrev pub CanBegin : Table T → ℕ → Type 0
+  CanBegin table bytes = (used table.cells + bytes ≤ table.limit) × (0 < count_by is_free table.cells)
+
   -- the cause of a refusal
   abbrev pub IsCause : Table T → ℕ → CellFault → Type 0
   IsCause table bytes (Full used_bytes wanted limit) =

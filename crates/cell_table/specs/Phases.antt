@@ -10,6 +10,13 @@ module _ {T : Type 0} where
   id_of (Live id bytes pins value) = id
   id_of (Retired id bytes pins value) = id
 
+  -- the id of a cell in use
+  abbrev pub cell_id : Phase T → Option ℕ
+  cell_id Free = None
+  cell_id (Filling id bytes) = Some id
+  cell_id (Live id bytes pins value) = Some id
+  cell_id (Retired id bytes pins value) = Some id
+
   abbrev pub bytes_of : Phase T → ℕ
   bytes_of Free = 0
   bytes_of (Filling id bytes) = bytes

@@ -1,7 +1,8 @@
-ghost use Rattle.std.specs.Prelude.{◌≡◌, ℕ, ◌-◌, ◌<◌, ◌^◌, ◌↔◌, true, All, Some, length, map, count_by, slice_set, IfOk, IfErr, OnErr, IsSome};
-ghost use Rattle.cell_table.specs.Phases.{has_id, pins_of, is_free, is_filling, is_live, is_idle, published, retired, pinned, unpinned, recycled, value_of};
-ghost use Rattle.cell_table.specs.Cells.{cell_at, used, pins, counts_of, IsUnused, Begins, IsCause};
+ghost use Rattle.std.specs.Prelude.{◌≡◌, ◌≢◌, ℕ, ◌+◌, ◌-◌, ◌<◌, ◌≤◌, ◌^◌, ◌↔◌, true, false, All, Some, length, map, count_by, slice_set, IfOk, IfErr, OnOk, OnErr, IsSome};
+ghost use Rattle.cell_table.specs.Phases.{has_id, id_of, cell_id, pins_of, is_free, is_filling, is_live, is_idle, published, retired, pinned, unpinned, recycled, value_of};
+ghost use Rattle.cell_table.specs.Cells.{cell_at, used, pins, counts_of, IsUnused, Begins, CanBegin, IsCause};
 ghost use Rattle.cell_table.specs.declared.phase.Phase.TheVariants.{Free};
+ghost use Rattle.cell_table.specs.declared.table.CellFault.TheVariants.{Full, NoMemory};
 
 use crate::phase::Phase;
 use crate::places::{put, put_idle, ready};
@@ -102,13 +103,7 @@ impl<T: Drop> CellTable<T> {
         ensures err { IfErr result (IsCause self.old bytes) }
         ensures same { OnErr result (self.new ≡ self.old) }
     {
-        if bytes > u128::from(self.limit - self.used) {
-            return Err(CellFault::Full {
-                used: self.used,
-                wanted: bytes,
-                limit: self.limit,
-            });
-        }
+        fit(self.used, bytes, self.limit)?;
         ready(&mut self.cells, &mut self.free, &mut self.idle, self.most)?;
         let place = self.free[self.free.len() - 1];
         if self.ids.insert(id, place).is_err() {
@@ -120,6 +115,21 @@ impl<T: Drop> CellTable<T> {
         self.used += bytes as u64;
         self.counts.filling += 1;
         Ok(place)
+    }
+
+    /// What `begin` of so many bytes would be refused for now, other than want of memory.
+    pub fn check(&self, bytes: u128) -> Result<(), CellFault>
+        ensures ok { OnOk result (CanBegin self.now bytes) }
+        ensures err { IfErr result (IsCause self.now bytes) }
+        ensures memory { IfErr result (λ fault. fault ≢ NoMemory) }
+    {
+        fit(self.used, bytes, self.limit)?;
+        if self.free.is_empty() && self.cells.len() == self.most {
+            return Err(CellFault::NoCell {
+                limit: self.most as u64,
+            });
+        }
+        Ok(())
     }
 
     /// A filling cell gets its value, and is live.
@@ -206,11 +216,29 @@ impl<T: Drop> CellTable<T> {
         self.cells[cell].value()
     }
 
+    /// The id of a cell in use.
+    pub fn id(&self, cell: Cell) -> u64
+        requires { is_free (cell_at self.now.cells cell) ≡ false }
+        ensures id { result ≡ id_of (cell_at self.now.cells cell) }
+        ensures some { cell_id (cell_at self.now.cells cell) ≡ Some result }
+        ensures there { has_id result (cell_at self.now.cells cell) ≡ true }
+    {
+        self.cells[cell].id()
+    }
+
     /// The bytes of all cells.
     pub fn used(&self) -> u64
-        ensures { result ≡ used self.now.cells }
+        ensures used { result ≡ used self.now.cells }
+        ensures within { result ≤ self.now.limit }
     {
         self.used
+    }
+
+    /// The most bytes of all cells.
+    pub fn limit(&self) -> u64
+        ensures { result ≡ self.now.limit }
+    {
+        self.limit
     }
 
     /// The cell that is in use under an id.
@@ -225,4 +253,20 @@ impl<T: Drop> CellTable<T> {
     {
         self.counts
     }
+}
+
+// Whether so many bytes more are within the limit.
+fn fit(used: u64, wanted: u128, limit: u64) -> Result<(), CellFault>
+    requires { used ≤ limit }
+    ensures ok { OnOk result (used + wanted ≤ limit) }
+    ensures err { IfErr result (λ fault. (fault ≡ Full used wanted limit) × (limit < used + wanted)) }
+{
+    if wanted > u128::from(limit - used) {
+        return Err(CellFault::Full {
+            used,
+            wanted,
+            limit,
+        });
+    }
+    Ok(())
 }

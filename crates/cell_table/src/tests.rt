@@ -15,7 +15,12 @@ fn a_cell_is_used_again(rt: HostRuntime) -> Result<(), Fail> {
             })
         )
     );
+    assert!(rt; table.check(136).is_ok() && table.check(137).is_err());
+    assert_eq!(rt; table.limit(), 136);
     let cell = table.begin(1, 136).expect(&rt, "all is free");
+    assert_eq!(rt; table.id(cell), 1);
+    let none = table.check(0);
+    assert!(rt; matches!(&none, Err(CellFault::NoCell { limit: 1 })));
     let none = table.begin(2, 0);
     assert!(rt; matches!(&none, Err(CellFault::NoCell { limit: 1 })));
     assert_eq!(rt; table.cell_of(1), Some(cell));

@@ -1,4 +1,4 @@
-ghost use Rattle.std.specs.Prelude.{◌≡◌, ◌≤◌, length, position};
+ghost use Rattle.std.specs.Prelude.{◌≡◌, ◌+◌, if◌then◌else◌, length, position};
 ghost use Rattle.std.specs.List.{list_any};
 ghost use Rattle.std.specs.Option.{option_or};
 ghost use Rattle.pass_pins.specs.Pins.{has_id, is_finished, is_unfinished, least_finished, with_finished, without_one};
@@ -56,7 +56,7 @@ pub fn finish_one(pins: &mut ArrayVec<Pin, MAX_PINS>, id: u64) -> bool
 pub fn take_one(pins: &mut ArrayVec<Pin, MAX_PINS>, id: u64) -> bool
     ensures there { result ≡ list_any (has_id id) pins.old.items }
     ensures pins { pins.new.items ≡ without_one id pins.old.items }
-    ensures len { length pins.new.items ≤ length pins.old.items }
+    ensures len { length pins.old.items ≡ length pins.new.items + (if result then 1 else 0) }
 {
     match place_to_take(pins.as_slice(), id) {
         Some(place) => {

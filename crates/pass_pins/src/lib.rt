@@ -103,6 +103,7 @@ impl PassPins {
         ensures there { result ≡ list_any (has_id id) self.old.pins }
         ensures pins { self.new ≡ record self.old { pins = without_one id self.old.pins } }
         ensures each { (q : ℕ) → count_of q self.old.pins ≡ count_of q self.new.pins + (if result && id == q then 1 else 0) }
+        ensures count { length self.old.pins ≡ length self.new.pins + (if result then 1 else 0) }
     {
         take_one(&mut self.pins, id)
     }

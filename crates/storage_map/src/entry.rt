@@ -17,9 +17,11 @@ pub struct Live {
 }
 
 /// A storage that is being filled.
-#[derive(Clone, Copy)]
+#[derive(Clone, Copy, Debug, PartialEq, Eq)]
 pub struct Begun {
     pub cell: Cell,
+
+    /// How many rows it will have.
     pub rows: u64,
 }
 

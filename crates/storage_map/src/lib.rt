@@ -7,5 +7,5 @@ mod slots;
 #[cfg(test)]
 mod tests;
 
-pub use entry::Live;
+pub use entry::{Begun, Live};
 pub use map::StorageMap;

@@ -65,6 +65,13 @@ impl StorageMap {
         entry_of(&self.slots, slot).live
     }
 
+    /// The storage of a slot that is being filled.
+    pub fn begun(&self, slot: Slot) -> Option<Begun>
+        ensures { result ≡ begun_at self.now slot }
+    {
+        entry_of(&self.slots, slot).begun
+    }
+
     /// The storage that was begun becomes the one in use, with all its rows. As many of them are alive as in the
     /// storage that was in use before, or all where there was none. It takes no memory.
     pub fn publish(&mut self, slot: Slot)

@@ -1,4 +1,4 @@
-use crate::{Live, StorageMap};
+use crate::{Begun, Live, StorageMap};
 use cell_table::Cell;
 use std::test::Fail;
 
@@ -32,7 +32,9 @@ fn a_slot_goes_from_one_storage_to_the_next(rt: HostRuntime) -> Result<(), Fail>
     fill(&mut map, 5, 4, 1)?;
     assert_eq!(rt; map.live(5), live(4, 1, 1));
     map.begin(5, 6, 1)?;
+    assert_eq!(rt; map.begun(5), Some(Begun { cell: 6, rows: 1 }));
     map.abandon(5);
+    assert_eq!(rt; map.begun(5), None);
     assert_eq!(rt; map.live(5), live(4, 1, 1));
     assert_eq!(rt; lose(&mut map, 5), Some(0));
     assert_eq!(rt; lose(&mut map, 5), None);

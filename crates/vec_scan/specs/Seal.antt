@@ -1,6 +1,7 @@
 -- A sealed image, as contracts see it.
 use Rattle.std.specs.Prelude.{◌≡◌, ℕ, ◌-◌, ◌==◌, nat_le, List, ◌++◌, take, replicate, find, map, Option, option_map}
 use Rattle.le_fields.specs.Fields.{rounded}
+use Rattle.adb_model.specs.State.{Row}
 use Rattle.account_layout.specs.declared.record.Record.{Record}
 use Rattle.account_layout.specs.Record.{account_in}
 use Rattle.account_layout.specs.Reading.{fields_of}
@@ -20,6 +21,14 @@ pub record Seals (slot id : ℕ) (file : List ℕ) (len : ℕ) (image : Image) :
 -- the row whose record starts at a place
 abbrev pub row_at : List Placed → ℕ → Option Placed
 row_at rows offset = find (λ row. row.offset == offset) rows
+
+-- the row that stands at a place, without the place
+abbrev pub row_there : List Placed → ℕ → Option Row
+row_there rows offset = option_map (λ placed. placed.row) (row_at rows offset)
+
+-- the rows of an image, without their places
+abbrev pub rows_in : Image → List Row
+rows_in image = map (λ placed. placed.row) image.rows
 
 -- the place of the first row that starts at a place or after it
 abbrev pub next_offset : List Placed → ℕ → Option ℕ

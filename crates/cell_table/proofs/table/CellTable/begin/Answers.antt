@@ -7,14 +7,16 @@ use Rattle.cell_table.specs.declared.phase.Phase.TheVariants.{Filling}
 use Rattle.cell_table.specs.Phases.{bytes_of, has_id, is_free}
 use Rattle.cell_table.specs.Cells.{Table}
 use Rattle.cell_table.proofs.Sound.{last_place, room_set, cell_seen, sum_seen, table_set, IsSound-begin}
-use Rattle.cell_table.proofs.Grown.{IsSound-grows, view-grows, lack_cause, length_seen, free_seen, free_is, on_err_any, on_err_is, on_ok_is}
+use Rattle.cell_table.proofs.Grown.{IsSound-grows, view-grows, full_cause, lack_cause, length_seen, free_seen, free_is, on_err_any, on_err_is, on_ok_is}
 use Rattle.cell_table.proofs.table.CellTable.begin.Goals as goal
 
-pub returns-then-bytes-from-clause-err : goal.returns-then-bytes-from-clause-err
-returns-then-bytes-from-clause-err g c =
-    let limit = ap (λ (t : Table _). t.limit) c.self.view_is in
-    let total = c.self.invariant.1.total ∙ sym (sum_seen c.args.self.now c.self.inside.most c.self.inside.limit c.self.inside.cells.items c.self.view_is bytes_of refl) in
-    (total, refl, limit, omega (arith, c.if-bytes-from.true, c.from.ensures, c.self.invariant.1.within))
+pub returns-in_err-fit-clause-err : goal.returns-in_err-fit-clause-err
+returns-in_err-fit-clause-err g c =
+    let cause = full_cause c.args.self.now c.self.inside.most c.self.inside.limit c.self.inside.cells.items c.self.view_is c.self.invariant.0.few _ c.self.invariant.1.total c.args.bytes _ c.in_err-fit.ensures.err in
+    let p = err_from_is_err_and c.from_residual.result c.from_residual.ensures.1 in rw (p.1, p.2) cause
+
+pub returns-in_err-fit-clause-same : goal.returns-in_err-fit-clause-same
+returns-in_err-fit-clause-same g c = on_err_any c.from_residual.result refl
 
 pub invariant_of-self : goal.invariant_of-self
 invariant_of-self g c =
@@ -25,13 +27,13 @@ pub returns-in_err-ready-clause-err : goal.returns-in_err-ready-clause-err
 returns-in_err-ready-clause-err g c =
     let limit = ap (λ (t : Table _). t.limit) c.self.view_is in
     let total = c.self.invariant.1.total ∙ sym (sum_seen c.args.self.now c.self.inside.most c.self.inside.limit c.self.inside.cells.items c.self.view_is bytes_of refl) in
-    let cause = lack_cause c.args.self.now c.self.inside.most c.self.inside.limit c.self.inside.cells.items c.self.view_is c.self.invariant.0.few c.self.inside.free.items c.self.invariant.1.free_places c.args.bytes (omega (arith, c.if-bytes-from.false, c.from.ensures, c.self.invariant.1.within, limit, total)) c.in_err-ready.field-0.0 c.in_err-ready.ensures.err in
-    let p = err_from_is_err_and c.from_residual.result c.from_residual.ensures.1 in rw (p.1, p.2) cause
+    let cause = lack_cause c.args.self.now c.self.inside.most c.self.inside.limit c.self.inside.cells.items c.self.view_is c.self.invariant.0.few c.self.inside.free.items c.self.invariant.1.free_places c.args.bytes (omega (arith, c.in_ok-fit.ensures.ok, limit, total)) c.in_err-ready.field-0.0 c.in_err-ready.ensures.err in
+    let p = err_from_is_err_and c.from_residual-in_err-ready.result c.from_residual-in_err-ready.ensures.1 in rw (p.1, p.2) cause
 
 pub returns-in_err-ready-clause-same : goal.returns-in_err-ready-clause-same
 returns-in_err-ready-clause-same g c =
     let view = view-grows c.args.self.now c.self.inside.most c.self.inside.limit c.self.inside.cells.items c.self.view_is c.self.invariant.0.few c.self.inside.free.items c.ready.new.free.items c.ready.new.cells.items c.ready.ensures.grows in
-    on_err_any c.from_residual.result view
+    on_err_any c.from_residual-in_err-ready.result view
 
 pub invariant_of-self-then-is_err : goal.invariant_of-self-then-is_err
 invariant_of-self-then-is_err g c =
@@ -46,7 +48,7 @@ returns-then-is_err-clause-err g c =
     let sound = (IsSound-grows c.self.inside.cells.items c.self.inside.most c.self.inside.free.items c.ready.new.cells.items c.ready.new.free.items c.self.inside.idle.items (get nat_cmp c.self.inside.ids) c.self.inside.used c.self.inside.limit c.self.inside.counts c.ready.ensures.grows c.self.invariant.1) in
     let view = view-grows c.args.self.now c.self.inside.most c.self.inside.limit c.self.inside.cells.items c.self.view_is c.self.invariant.0.few c.self.inside.free.items c.ready.new.free.items c.ready.new.cells.items c.ready.ensures.grows in
     let some : 0 < length c.ready.new.free.items = c.in_ok-ready.ensures.ok in
-    (omega (arith, free_seen _ _ _ _ view c.ready.ensures.room.few, sound.free_places.every), omega (arith, c.if-bytes-from.false, c.from.ensures, c.self.invariant.1.within, limit, total))
+    (omega (arith, free_seen _ _ _ _ view c.ready.ensures.room.few, sound.free_places.every), omega (arith, c.in_ok-fit.ensures.ok, limit, total))
 
 pub returns-then-is_err-clause-same : goal.returns-then-is_err-clause-same
 returns-then-is_err-clause-same g c =
@@ -83,7 +85,7 @@ invariant_of-self-2 g c =
     let room = room_set c.ready.new.cells.items i (Filling c.args.id c.args.bytes) _ _ _ c.ready.ensures.room in
     rw (c.ready.ensures.idle, c.fill.ensures, c.pop.ensures.rest) (
       record { few = room.few; free = omega (arith, room.free, c.pop.ensures.capacity); idle = room.idle },
-      IsSound-begin _ _ _ _ _ _ _ sound i place.0 free c.args.id c.args.bytes absent (omega (arith, c.if-bytes-from.false, c.from.ensures, c.self.invariant.1.within, limit, total)) _ new.0 n long last,
+      IsSound-begin _ _ _ _ _ _ _ sound i place.0 free c.args.id c.args.bytes absent (omega (arith, c.in_ok-fit.ensures.ok, limit, total)) _ new.0 n long last,
     )
 
 pub returns-clause-ok : goal.returns-clause-ok
@@ -102,6 +104,6 @@ returns-clause-ok g c =
     record {
       within = omega (arith, place.0, length_seen _ _ _ _ view c.ready.ensures.room.few, c.ready.ensures.room.few);
       was_free = cell_seen _ _ _ _ view i ∙ free;
-      fits = omega (arith, c.if-bytes-from.false, c.from.ensures, c.self.invariant.1.within, limit, total);
+      fits = omega (arith, c.in_ok-fit.ensures.ok, limit, total);
       now = table_set _ _ _ _ view i _ (λ p. Filling c.args.id c.args.bytes) place.0 c.fill.ensures;
     }
