@@ -1,7 +1,24 @@
+mod CellOfStorage
+mod CellSums
 mod Counts
+mod FlushSteps
 mod HeldPins
 mod Loads
 mod Lookups
 mod Marks
+mod NewParts
 mod NextKeys
+mod PinsInHand
+mod Repinned
 mod Steps
+mod StoredLoads
+mod Unpins
+pub mod BegunFlush
+pub mod CellChanges
+pub mod DroppedFlush
+pub mod EndedFlush
+pub mod Found
+pub mod OpenFlush
+pub mod Reflected
+pub mod RowPlaces
+pub mod SlotChanges

@@ -1,20 +1,21 @@
 -- The answer at the latest version that a view sees.
-use Rattle.std.proofs.Common.{◌≡◌, ℕ, ◌<◌, ◌≤◌, List, [], ◌∷◌, Bool, true, false, cond, eqb, nat_lt, nat_le, Option, Some, None, option_map, unwrap_or, filter, count_by, refl, sym, ap, ◌∙◌, inl, inr, ◌⊎◌, IsTrue, IsFalse, option_and_then}
-use Rattle.std.specs.List.{list_any}
+use Rattle.std.proofs.Common.{◌≡◌, ℕ, ◌<◌, ◌≤◌, List, [], ◌∷◌, Bool, true, false, cond, not, eqb, nat_lt, nat_le, Option, Some, None, option_map, unwrap_or, filter, count_by, refl, sym, ap, ◌∙◌, inl, inr, ◌⊎◌, IsTrue, IsFalse, option_and_then}
 use Rattle.std.specs.Option.{option_map_or}
 use Rattle.std.specs.Str.{bytes_eq}
+use Rattle.std.specs.Cmp.Lexicographic.{bytes_decides}
 use Rattle.std.proofs.lemmas.Bool.{cases_Bool, false≢true, eqb-true, and_parts, le-ltb, lt-leb}
 use Rattle.slot_list.specs.declared.Version.{Version}
+use Rattle.slot_list.specs.Versions.{at}
 use Rattle.slot_list.specs.Latest as slots
 use Rattle.slot_list.specs.Latest.{IsLatest}
-use Rattle.accounts_index.specs.Index.{kept}
+use Rattle.accounts_index.specs.Index.{kept, is_stored}
 use Rattle.write_cache.specs.Rows.{rows, account_at}
 use Rattle.adb_model.specs.Lists.{among, last}
 use Rattle.adb_model.specs.Account.{Account, is_tomb}
 use Rattle.adb_model.specs.View.{View}
-use Rattle.adb_model.specs.State.{Row, Stored, Pair, State}
+use Rattle.adb_model.specs.State.{Row, Stored, State}
 use Rattle.adb_model.specs.Load.{sees, is_of, last_store, unless_tomb, answer}
-use Rattle.adb_model.specs.Presence.{is_cached, is_present, is_pair, ends_in_tomb}
+use Rattle.adb_model.specs.Presence.{has_store, is_cached, is_named, is_present, ends_in_tomb}
 use Rattle.adb_model.specs.Flush.{flush_rows}
 use Rattle.adb_model.specs.Storages.{live_storage}
 use Rattle.adb_model.specs.Call as machine
@@ -23,7 +24,7 @@ use Rattle.adb_model.specs.Outcome.{unless, refused_if, first_of}
 use Rattle.adb_model.specs.Callers.{found, place_of, pinned}
 use Rattle.adb_model.specs.Step.{step}
 use Rattle.book_parts.specs.Parts.{Parts}
-use Rattle.book_parts.specs.Reflects.{Reflects, mark_of}
+use Rattle.book_parts.specs.Reflects.{Reflects, found_of, mark_of}
 use Rattle.book_parts.proofs.Lookups.{unmarked, marked}
 
 abbrev pub pins_of : State → ℕ → ℕ
@@ -52,6 +53,7 @@ module _ (p : Parts) (m : State) (view : View) (key : List ℕ) (v : Version) wh
     pub seen : IsTrue (sees m view v.slot)
     pub present : IsTrue (is_present m v.slot key)
     pub tomb : ends_in_tomb m v.slot key ≡ v.tomb
+    pub cached : is_cached m v.slot key ≡ not (is_stored v.place)
     pub above : (s : ℕ) → v.slot < s → IsTrue (sees m view s) → IsFalse (is_present m s key)
 
   sees_same : Reflects p m → (s : ℕ) → slots.sees view.ancestors p.roots view.max_root s ≡ sees m view s
@@ -59,13 +61,22 @@ module _ (p : Parts) (m : State) (view : View) (key : List ℕ) (v : Version) wh
 
   pub top : Reflects p m → IsLast → IsTop
   top r l =
-      let is = marked (is_present m v.slot key) (ends_in_tomb m v.slot key) (is_cached m v.slot key) (mark_of v) (sym (ap (option_map mark_of) l.0) ∙ r.versions key v.slot) in
+      let is = marked (is_present m v.slot key) (ends_in_tomb m v.slot key) (is_cached m v.slot key) (mark_of (found_of v)) (sym (ap (λ o. option_map mark_of (option_map found_of o)) l.0) ∙ r.marks key v.slot) in
       record {
         seen = sym (sees_same r v.slot) ∙ l.1;
         present = is.0;
         tomb = is.1;
-        above = λ s lt t. unmarked (is_present m s key) (ends_in_tomb m s key) (is_cached m s key) (sym (ap (option_map mark_of) (l.2 s lt (sees_same r s ∙ t))) ∙ r.versions key s);
+        cached = is.2;
+        above = λ s lt t. unmarked (is_present m s key) (ends_in_tomb m s key) (is_cached m s key) (sym (ap (λ o. option_map mark_of (option_map found_of o)) (l.2 s lt (sees_same r s ∙ t))) ∙ r.marks key s);
       }
+
+-- where no slot that the view sees has a version, none has the key present
+pub none_seen : (p : Parts) (m : State) (view : View) (key : List ℕ) → Reflects p m
+    → ((s : ℕ) → slots.sees view.ancestors p.roots view.max_root s ≡ true → at s (kept p.index key).versions ≡ None)
+    → (s : ℕ) → IsTrue (sees m view s) → IsFalse (is_present m s key)
+none_seen p m view key r none s seen =
+    let there = none s (ap (λ (rs : List ℕ). slots.sees view.ancestors rs view.max_root s) r.roots ∙ seen) in
+    unmarked (is_present m s key) (ends_in_tomb m s key) (is_cached m s key) (sym (ap (λ o. option_map mark_of (option_map found_of o)) there) ∙ r.marks key s)
 
 -- ---- the last store of a pair
 
@@ -85,9 +96,12 @@ last_of test (y ∷ ys) x e = by (cases_Bool (test y)) (last_of test ys)
 store_slot : (m : State) (s : ℕ) (k : List ℕ) (t : Stored) → last_store m s k ≡ Some t → t.slot ≡ s
 store_slot m s k t e = eqb-true t.slot s (and_parts (eqb t.slot s) (bytes_eq t.key k) (last_of (is_of s k) m.stores t e)).0
 
--- while nothing is named, all that is found is in the cache
-pub cached_place : (m : State) (s : ℕ) (k : List ℕ) → m.named ≡ [] → place_of m s k ≡ machine.Cached
-cached_place m s k none = ap (λ (ps : List Pair). cond (list_any (is_pair s k) ps) (option_map_or (λ t. machine.InStorage t.id) (live_storage m s) machine.Cached) machine.Cached) none
+store_key : (m : State) (s : ℕ) (k : List ℕ) (t : Stored) → last_store m s k ≡ Some t → t.key ≡ k
+store_key m s k t e = (bytes_decides t.key k).0 (and_parts (eqb t.slot s) (bytes_eq t.key k) (last_of (is_of s k) m.stores t e)).1
+
+-- what is not named is found in the cache
+pub cached_place : (m : State) (s : ℕ) (k : List ℕ) → IsFalse (is_named m s k) → place_of m s k ≡ machine.Cached
+cached_place m s k none = ap (λ b. cond b (option_map_or (λ t. machine.InStorage t.id) (live_storage m s) machine.Cached) machine.Cached) none
 
 -- what is found of a last store
 module _ (m : State) (pass s : ℕ) (k : List ℕ) where
@@ -101,17 +115,17 @@ module _ (m : State) (pass s : ℕ) (k : List ℕ) where
   pub tomb_found : ends_in_tomb m s k ≡ true → outcome (last_store m s k) ≡ (m, NotFound)
   tomb_found e = tomb_by (last_store m s k) e
 
-  cached_by : (account : Account) (o : Option Stored) → last_store m s k ≡ o → m.named ≡ [] → option_map_or (λ t. is_tomb t.account) o false ≡ false → option_map (λ t. t.account) o ≡ Some account
+  cached_by : (account : Account) (o : Option Stored) → last_store m s k ≡ o → IsFalse (is_named m s k) → option_map_or (λ t. is_tomb t.account) o false ≡ false → option_map (λ t. t.account) o ≡ Some account
       → outcome o ≡ (m, Found s machine.Cached account)
   cached_by account None is none e f = absurd cc
   cached_by account (Some t) is none e f =
       let same : t.account ≡ account = cc in
       ap (λ b. found m pass (cond b None (Some t))) e
-      ∙ ap (λ place. let done : State × Reply = (pinned m pass place, Found t.slot place t.account) in done) (cached_place m t.slot t.key none)
+      ∙ ap (λ place. let done : State × Reply = (pinned m pass place, Found t.slot place t.account) in done) (ap (λ n. place_of m n t.key) (store_slot m s k t is) ∙ ap (place_of m s) (store_key m s k t is) ∙ cached_place m s k none)
       ∙ ap (λ n. let done : State × Reply = (m, Found n machine.Cached t.account) in done) (store_slot m s k t is)
       ∙ ap (λ a. let done : State × Reply = (m, Found s machine.Cached a) in done) same
 
-  pub cached_found : (account : Account) → m.named ≡ [] → ends_in_tomb m s k ≡ false → option_map (λ t. t.account) (last_store m s k) ≡ Some account
+  pub cached_found : (account : Account) → IsFalse (is_named m s k) → ends_in_tomb m s k ≡ false → option_map (λ t. t.account) (last_store m s k) ≡ Some account
       → outcome (last_store m s k) ≡ (m, Found s machine.Cached account)
   cached_found account none e f = cached_by account (last_store m s k) refl none e f
 
@@ -125,3 +139,11 @@ account_by false rs k account e = e
 pub row_account : (p : Parts) (m : State) (s : ℕ) (k : List ℕ) (account : Account) → Reflects p m → account_at (flush_rows m s) k ≡ option_map (λ t. t.account) (last_store m s k)
     → account_at (rows p.cache s) k ≡ Some account → option_map (λ t. t.account) (last_store m s k) ≡ Some account
 row_account p m s k account r is e = sym is ∙ account_by (among s m.flushed) (flush_rows m s) k account (ap (λ rs. account_at rs k) (sym (r.rows s)) ∙ e)
+
+-- a cached pair's slot is not flushed
+pub cached_unflushed : (m : State) (s : ℕ) (k : List ℕ) → IsTrue (is_cached m s k) → IsFalse (among s m.flushed)
+cached_unflushed m s k e = flip (among s m.flushed) (and_parts (has_store m s k) (not (among s m.flushed)) e).1
+  where
+    flip : (b : Bool) → not b ≡ true → b ≡ false
+    flip true e = absurd cc
+    flip false e = refl

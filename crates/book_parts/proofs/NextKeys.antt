@@ -13,7 +13,7 @@ use Rattle.accounts_index.specs.Index.{Kept, Index, kept, nothing, key_cmp, is_a
 use Rattle.adb_model.specs.State.{State}
 use Rattle.adb_model.specs.Presence.{is_present, is_cached, ends_in_tomb}
 use Rattle.book_parts.specs.Parts.{Parts}
-use Rattle.book_parts.specs.Reflects.{Reflects, mark_of}
+use Rattle.book_parts.specs.Reflects.{Reflects, found_of, mark_of}
 use Rattle.book_parts.specs.Keys.{IsNextKey, IsAbsent}
 use Rattle.book_parts.proofs.Lookups.{unmarked, marked}
 
@@ -124,13 +124,13 @@ module _ (after : Option (List ℕ)) where
 
 absent : (p : Parts) (m : State) → Reflects p m → (k : List ℕ) → versions p.index k ≡ [] → IsAbsent m k
 absent p m r k none = λ s.
-    unmarked (is_present m s k) (ends_in_tomb m s k) (is_cached m s k) (ap (λ (vs : List Version). option_map mark_of (at s vs)) (sym none) ∙ r.versions k s)
+    unmarked (is_present m s k) (ends_in_tomb m s k) (is_cached m s k) (ap (λ (vs : List Version). option_map mark_of (option_map found_of (at s vs))) (sym none) ∙ r.marks k s)
 
 present : (p : Parts) (m : State) → Reflects p m → (k : List ℕ) (vs : List Version) → versions p.index k ≡ vs → nat_lt 0 (length vs) ≡ true → (s : ℕ) × IsTrue (is_present m s k)
 present p m r k [] is some = absurd (true≢false (sym some))
 present p m r k (v ∷ vs) is some =
     let here : at v.slot (v ∷ vs) ≡ Some v = ap (λ b. cond b (Some v) (at v.slot vs)) (eq-eqb v.slot v.slot refl) in
-    (v.slot, (marked (is_present m v.slot k) (ends_in_tomb m v.slot k) (is_cached m v.slot k) (mark_of v) (sym (ap (option_map mark_of) here) ∙ ap (λ (us : List Version). option_map mark_of (at v.slot us)) (sym is) ∙ r.versions k v.slot)).0)
+    (v.slot, (marked (is_present m v.slot k) (ends_in_tomb m v.slot k) (is_cached m v.slot k) (mark_of (found_of v)) (sym (ap (λ o. option_map mark_of (option_map found_of o)) here) ∙ ap (λ (us : List Version). option_map mark_of (option_map found_of (at v.slot us))) (sym is) ∙ r.marks k v.slot)).0)
 
 pub next_key : (p : Parts) (m : State) (after : Option (List ℕ)) → Reflects p m → IsOrdered p.index → IsNextKey m after (key_after p.index after)
 next_key p m after r ordered = by (found_in after p.index) refl

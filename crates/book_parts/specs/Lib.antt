@@ -1,6 +1,9 @@
 pub mod Parts
+pub mod Cells
+pub mod Storages
 pub mod Reflects
 pub mod Pins
 pub mod Stands
 pub mod Changes
+pub mod Flushes
 pub mod Keys

@@ -6,6 +6,7 @@ use Rattle.adb_model.specs.Call.{Call, Reply, Event}
 use Rattle.adb_model.specs.History.{state_after, IsLegal}
 use Rattle.adb_model.specs.Sound.{IsSound}
 use Rattle.adb_model.specs.Once.{IsOnce}
+use Rattle.adb_model.specs.RowBytes.{HaveBytes}
 use Rattle.book_parts.specs.Parts.{Parts}
 use Rattle.book_parts.specs.Reflects.{Reflects}
 use Rattle.book_parts.specs.Pins.{HoldsPins}
@@ -15,6 +16,7 @@ pub record Stands (p : Parts) (start : State) (history : List Event) : Type 0 wh
   pub legal : IsLegal start history
   pub sound : IsSound (state_after start history)
   pub once : IsOnce (state_after start history)
+  pub bytes : HaveBytes (state_after start history)
   pub parts : Reflects p (state_after start history)
 
 -- the history with one more event, unless there was no reply, as for want of memory

@@ -1,5 +1,6 @@
-ghost use Rattle.std.specs.Prelude.{count_by, ◌==◌, ◌≡◌, ◌≢◌, ◌<◌, ◌≤◌, ◌∷◌, ◌++◌, ℕ, List, [], Bool, true, false, length, AllPairs, Option, Some, None, IsSome, IsTrue, IsFalse};
+ghost use Rattle.std.specs.Prelude.{count_by, ◌==◌, ◌≡◌, ◌≢◌, ◌<◌, ◌≤◌, ◌^◌, ◌∷◌, ◌++◌, ℕ, List, [], Bool, true, false, length, All, AllPairs, Option, Some, None, IsSome, IsTrue, IsFalse};
 ghost use Rattle.slot_list.specs.declared.Version as version;
+ghost use Rattle.slot_list.specs.declared.Place.TheVariants as places;
 ghost use Rattle.slot_list.specs.Versions.{at};
 ghost use Rattle.slot_list.specs.Latest as slots;
 ghost use Rattle.slot_list.specs.Latest.{IsLatest};
@@ -7,6 +8,9 @@ ghost use Rattle.accounts_index.specs.Index.{Index, IsOrdered, kept};
 ghost use Rattle.accounts_index.specs.Index as index;
 ghost use Rattle.write_cache.specs.Rows.{Cache, rows, account_at};
 ghost use Rattle.pass_pins.specs.Pins.{Pins};
+ghost use Rattle.cell_table.specs.declared.phase.Phase.TheVariants as phases;
+ghost use Rattle.cell_table.specs.Cells.{Table};
+ghost use Rattle.storage_map.specs.Slots.{alive_sum, total_sum};
 ghost use Rattle.adb_model.specs.Lists.{among};
 ghost use Rattle.adb_model.specs.Account.{Account};
 ghost use Rattle.adb_model.specs.View.{View};
@@ -15,7 +19,7 @@ ghost use Rattle.adb_model.specs.Call as machine;
 ghost use Rattle.adb_model.specs.Call.{Refused};
 ghost use Rattle.adb_model.specs.Step.{step};
 ghost use Rattle.adb_model.specs.History.{state_after, IsPass};
-ghost use Rattle.book_parts.specs.Parts.{Parts, new_parts};
+ghost use Rattle.book_parts.specs.Parts.{Parts, Shared, new_parts};
 ghost use Rattle.book_parts.specs.Reflects.{Reflects, counts_in};
 ghost use Rattle.book_parts.specs.Pins.{HoldsPins};
 ghost use Rattle.book_parts.specs.Stands.{Stands, After, AfterWithPins};
@@ -23,9 +27,10 @@ ghost use Rattle.book_parts.specs.Changes.{rooted_by, AgreeIn, SameIndex, Enters
 ghost use Rattle.book_parts.specs.Keys.{IsNextKey};
 
 use adb_model::{
-    cached_pairs_are_counted, histories_go_on, last_stores_follow, named_pairs_stand_once,
-    only_roots_are_flushed, pairs_follow_purges, pairs_follow_stores, present_pairs_answer,
-    rows_are_last_stores, rows_follow_stores, states_are_sound,
+    cached_pairs_are_counted, counts_are_bounded, histories_go_on, last_stores_follow,
+    named_pairs_stand_once, only_roots_are_flushed, pairs_follow_purges, pairs_follow_stores,
+    present_pairs_answer, rows_are_last_stores, rows_follow_stores, rows_have_bytes,
+    states_are_sound,
 };
 
 /// A law: parts that stand for a history and then reflect what a call's step makes of its state, stand for
@@ -41,15 +46,18 @@ pub fn step_stands()
 {
     states_are_sound();
     named_pairs_stand_once();
+    rows_have_bytes();
     histories_go_on();
 }
 
-/// A law: the parts of a new book stand for no events from the fresh state.
+/// A law: the parts of a new book, whose cells are free, stand for no events from the fresh state.
 pub fn new_parts_stand()
-    ensures { (budget id : ℕ) → Stands (new_parts budget id) (fresh budget id) [] }
+    ensures { (cells : Table Shared) (id : ℕ) → length cells.cells ≡ 1048576 → All (λ cell. cell ≡ phases.Free) cells.cells
+        → Stands (new_parts cells id) (fresh cells.limit id) [] }
 {
     states_are_sound();
     named_pairs_stand_once();
+    rows_have_bytes();
 }
 
 /// A law: how parts stand before and after a store.
@@ -109,7 +117,7 @@ pub fn purge_stands()
 pub fn pins_are_held()
     ensures new { (m : State) (pass : ℕ) → IsPass pass → count_by (λ p. p.pass == pass) m.pins ≡ 0 → HoldsPins (record { pass = pass; pins = [] }) m }
     ensures stay { (pins : Pins) (m n : State) → n.pins ≡ m.pins → HoldsPins pins m → HoldsPins pins n }
-    ensures none { (p : Parts) (m0 : State) (h : List machine.Event) (pass : ℕ) → IsPass pass → Stands p m0 h → HoldsPins (record { pass = pass; pins = [] }) (state_after m0 h) }
+    ensures fresh { (budget id pass : ℕ) → IsPass pass → HoldsPins (record { pass = pass; pins = [] }) (fresh budget id) }
 {}
 
 /// A law: the latest version that a view sees of a key answers its load.
@@ -129,16 +137,17 @@ pub fn load_stands()
         → IsLatest (slots.sees view.ancestors p.roots view.max_root) (kept p.index key).versions (Some v) → v.tomb ≡ true
         → AfterWithPins p pins m0 h (machine.Load view key) (Some machine.NotFound) }
     ensures there { (p : Parts) (m0 : State) (h : List machine.Event) (key : List ℕ) (v : version.Version)
-        → Stands p m0 h → at v.slot (kept p.index key).versions ≡ Some v → IsSome (account_at (rows p.cache v.slot) key) }
+        → Stands p m0 h → at v.slot (kept p.index key).versions ≡ Some v → v.place ≡ places.Cached → IsSome (account_at (rows p.cache v.slot) key) }
     ensures cached { (p : Parts) (pins : Pins) (m0 : State) (h : List machine.Event) (view : View) (key : List ℕ) (v : version.Version) (account : Account)
         → Stands p m0 h → HoldsPins pins (state_after m0 h) → p.cleaned ≤ view.max_root → length pins.pins < 64
         → IsLatest (slots.sees view.ancestors p.roots view.max_root) (kept p.index key).versions (Some v) → v.tomb ≡ false
-        → account_at (rows p.cache v.slot) key ≡ Some account
+        → v.place ≡ places.Cached → account_at (rows p.cache v.slot) key ≡ Some account
         → AfterWithPins p pins m0 h (machine.Load view key) (Some (machine.Found v.slot machine.Cached account)) }
 {
     step_stands();
     histories_go_on();
     last_stores_follow();
+    only_roots_are_flushed();
     rows_are_last_stores();
     present_pairs_answer();
 }
@@ -149,6 +158,14 @@ pub fn stats_stand()
         → Stands p m0 h → After p m0 h pass machine.Stats (Some (machine.Counted (counts_in p))) }
 {
     step_stands();
+}
+
+/// A law: where the bytes of the storages are a number below 2^64, so are the sums of the rows.
+pub fn sums_fit()
+    ensures alive { (p : Parts) (m0 : State) (h : List machine.Event) → Stands p m0 h → p.cells.limit < 2 ^ 64 → alive_sum p.map < 2 ^ 64 }
+    ensures total { (p : Parts) (m0 : State) (h : List machine.Event) → Stands p m0 h → p.cells.limit < 2 ^ 64 → total_sum p.map < 2 ^ 64 }
+{
+    counts_are_bounded();
 }
 
 /// A law: the first key of an ordered index that is above another and has a version is the next key present.

@@ -1,5 +1,5 @@
-use Rattle.std.proofs.Common.{ap, eqb, count_by}
-use Rattle.adb_model.specs.History.{state_after}
+use Rattle.std.proofs.Common.{refl}
+use Rattle.adb_model.specs.State.{fresh}
 use Rattle.book_parts.proofs.HeldPins.{new_held, still_held}
 use Rattle.book_parts.proofs.laws.pins_are_held.Goals as goal
 
@@ -7,5 +7,5 @@ pub returns : goal.returns
 returns c = record {
   new = new_held;
   stay = still_held;
-  none = λ p m0 h pass is st. new_held (state_after m0 h) pass is (ap (count_by (λ q. eqb q.pass pass)) st.parts.unstored.pins);
+  fresh = λ budget id pass is. new_held (fresh budget id) pass is refl;
 }

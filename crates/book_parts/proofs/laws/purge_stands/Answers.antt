@@ -29,7 +29,7 @@ returns-clause-done c = λ p index cache m0 h pass slot keys st free e.
     let all = c.rows_are_last_stores.ensures.length m slot in
     let reflected = reflects_purge p index cache m slot keys unflushed
     (c.pairs_follow_purges.ensures.present m st.sound slot unflushed) (c.pairs_follow_purges.ensures.cached m slot) (c.pairs_follow_purges.ensures.tomb m slot)
-    (c.rows_follow_stores.ensures.purge m slot) all (c.cached_pairs_are_counted.ensures.purge m slot unflushed) st.parts e in
+    (c.rows_follow_stores.ensures.purge m slot) all (c.last_stores_follow.ensures.purge m slot) (c.cached_pairs_are_counted.ensures.purge m slot unflushed) st.parts e in
     c.step_stands.ensures.of_any p new m0 h pass (Purge slot) (Purged keys) refl st
     (ap (λ r. r.1) is ∙ ap Purged (keys_purged p index cache m slot keys unflushed all st.parts e))
     (subst (λ (r : State × Reply). Reflects new r.0) (sym is) reflected)

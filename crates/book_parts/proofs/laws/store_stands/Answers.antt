@@ -29,7 +29,7 @@ returns-clause-done c = λ p index cache m0 h pass slot key account st free e.
     let reflected = reflects_store p index cache m slot key account unflushed
     (c.pairs_follow_stores.ensures.present m slot key account unflushed) (c.pairs_follow_stores.ensures.cached m slot key account unflushed) (c.pairs_follow_stores.ensures.tomb m slot key account)
     (c.rows_follow_stores.ensures.here m slot key account) (c.rows_follow_stores.ensures.elsewhere m slot key account)
-    stored (c.cached_pairs_are_counted.ensures.store m slot key account unflushed) st.parts e in
+    stored (c.last_stores_follow.ensures.store m slot key account) (c.cached_pairs_are_counted.ensures.store m slot key account unflushed) st.parts e in
     c.step_stands.ensures.of_any p new m0 h pass (Store slot key account) Done
     (ap (λ r. r.0) (is ∙ sym (store_step_is m 1 slot key account None open_slot)))
     st (ap (λ r. r.1) is) (subst (λ (r : State × Reply). Reflects new r.0) (sym is) reflected)

@@ -1,0 +1,6 @@
+mod Edits
+mod Keys
+mod Moves
+mod Steps
+mod Cells
+mod Cached
