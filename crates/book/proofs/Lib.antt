@@ -1,3 +1,6 @@
+mod Images
+mod Pins
 mod Rows
 mod Slots
 mod Versions
+mod FlushRefusals

@@ -6,6 +6,7 @@ use Rattle.std.proofs.lemmas.Bool.{cases_Bool}
 use Rattle.std.proofs.lemmas.List.{take_more}
 use Rattle.std.proofs.lemmas.List.Folds.{list_any-append}
 use Rattle.std.proofs.lemmas.Option.{slice_get_within, get_or_from_slice_get}
+use Rattle.slot_list.specs.declared.Place.{Place}
 use Rattle.write_cache.specs.Rows.{account_at}
 use Rattle.adb_model.specs.State.{Row}
 use Rattle.adb_model.specs.Presence.{has_row}
@@ -53,18 +54,18 @@ row_there (x ∷ xs) (suc i) r e = ap (λ b. bytes_eq x.key r.key || b) (row_the
     or_true true = refl
     or_true false = refl
 
-abbrev Mark : Type 0
-Mark = Option (Bool × Bool)
+abbrev Entry : Type 0
+Entry = Option (Bool × Place)
 
 -- what was gone before, and what goes now
-pub gone_more : (a h b : Bool) (x : Mark) → cond (a && b) None (cond (a && h) None x) ≡ cond (a && (h || b)) None x
+pub gone_more : (a h b : Bool) (x : Entry) → cond (a && b) None (cond (a && h) None x) ≡ cond (a && (h || b)) None x
 gone_more true true true x = refl
 gone_more true true false x = refl
 gone_more true false true x = refl
 gone_more true false false x = refl
 gone_more false h b x = refl
 
-pub gone_all : (a h : Bool) (x : Mark) → (a ≡ true → h ≡ false → x ≡ None) → cond (a && h) None x ≡ cond a None x
+pub gone_all : (a h : Bool) (x : Entry) → (a ≡ true → h ≡ false → x ≡ None) → cond (a && h) None x ≡ cond a None x
 gone_all true true x none = refl
 gone_all true false x none = none refl refl
 gone_all false h x none = refl

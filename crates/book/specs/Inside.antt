@@ -4,4 +4,4 @@ use Rattle.book.specs.declared.book.Book.TheInside.{Inside}
 
 -- the fields as parts
 abbrev pub seen : Inside → Parts
-seen b = record { index = b.index; cache = b.cache; roots = b.roots; cleaned = b.cleaned; budget = b.budget; next_id = b.next_id }
+seen b = record { index = b.index; cache = b.cache; roots = b.roots; cleaned = b.cleaned; cells = b.cells; map = b.map; next_id = b.next_id }

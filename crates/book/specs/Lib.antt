@@ -1,2 +1,4 @@
 pub mod Inside
+pub mod Pinned
 pub mod Replies
+pub mod Flushing

@@ -1,7 +1,11 @@
 -- The machine's reply for what a call answered; for want of memory there is none.
-use Rattle.std.specs.Prelude.{ℕ, Option, Some, None, Result, Ok, Err}
+use Rattle.std.specs.Prelude.{ℕ, Option, Some, None, option_map, Result, Ok, Err}
+use Rattle.vec_scan.specs.Seal.{row_there}
 use Rattle.adb_model.specs.Call as machine
 use Rattle.adb_model.specs.Call.{Reply, Done, Refused, Purged, NotFound}
+use Rattle.flush_plan.specs.Jobs.{Job}
+use Rattle.book.specs.declared.refusals.FlushRefusal.{FlushRefusal}
+use Rattle.book.specs.declared.refusals.FlushRefusal.TheVariants as flushes
 use Rattle.book.specs.declared.refusals.StoreRefusal.{StoreRefusal}
 use Rattle.book.specs.declared.refusals.StoreRefusal.TheVariants as stores
 use Rattle.book.specs.declared.refusals.RootRefusal.{RootRefusal}
@@ -9,9 +13,10 @@ use Rattle.book.specs.declared.refusals.RootRefusal.TheVariants as roots
 use Rattle.book.specs.declared.refusals.Rooted.{Rooted}
 use Rattle.book.specs.declared.refusals.LoadRefusal.{LoadRefusal}
 use Rattle.book.specs.declared.refusals.LoadRefusal.TheVariants as loads
+use Rattle.book.specs.declared.refusals.NotPinned.{NotPinned}
 use Rattle.book.specs.declared.loading.Found.{Found}
 use Rattle.book.specs.declared.loading.FoundAt.{FoundAt}
-use Rattle.book.specs.declared.loading.FoundAt.TheVariants.{Cached}
+use Rattle.book.specs.declared.loading.FoundAt.TheVariants.{Cached, Stored}
 
 -- to a store
 abbrev pub store_reply : {U : Type 0} → Result U StoreRefusal → Option Reply
@@ -30,14 +35,31 @@ abbrev pub purge_reply : Result ℕ Rooted → Reply
 purge_reply (Ok keys) = Purged keys
 purge_reply (Err rooted) = Refused (machine.Rooted rooted.slot)
 
--- to a load that found a version: where it stands, and its account
-abbrev pub found_at : ℕ → FoundAt → Reply
-found_at slot (Cached account) = machine.Found slot machine.Cached account.value
+-- to a load that found a version: where it stands, and its account, which in a storage is that of the row at the offset
+abbrev pub found_at : ℕ → FoundAt → Option Reply
+found_at slot (Cached account) = Some (machine.Found slot machine.Cached account.value)
+found_at slot (Stored id sealed offset) = option_map (λ r. machine.Found slot (machine.InStorage id) r.account) (row_there sealed.value.rows offset)
 
 -- to a load
 abbrev pub load_reply : Result (Option Found) LoadRefusal → Option Reply
 load_reply (Ok None) = Some NotFound
-load_reply (Ok (Some found)) = Some (found_at found.slot found.at)
+load_reply (Ok (Some found)) = found_at found.slot found.at
 load_reply (Err (loads.ViewTooOld max_root cleaned)) = Some (Refused (machine.ViewTooOld max_root cleaned))
 load_reply (Err (loads.TooManyPins most)) = Some (Refused (machine.TooManyPins most))
 load_reply (Err loads.NoMemory) = None
+
+-- to a pass that lets go of a storage, which wants no memory
+abbrev pub unpin_reply : {U : Type 0} → Result U NotPinned → Reply
+unpin_reply (Ok u) = Done
+unpin_reply (Err refusal) = Refused (machine.NotPinned refusal.id)
+
+-- to a flush that was to begin
+abbrev pub flush_reply : Result Job FlushRefusal → Option Reply
+flush_reply (Ok job) = Some (machine.FlushBegun job.id job.bytes)
+flush_reply (Err (flushes.NotRooted slot)) = Some (Refused (machine.NotRooted slot))
+flush_reply (Err (flushes.NothingCached slot)) = Some (Refused (machine.NothingCached slot))
+flush_reply (Err (flushes.Flushing slot id)) = Some (Refused (machine.Flushing slot id))
+flush_reply (Err (flushes.Full used wanted limit)) = Some (Refused (machine.Full used wanted limit))
+flush_reply (Err (flushes.NoCell limit)) = Some (Refused (machine.NoCell limit))
+flush_reply (Err flushes.IdsSpent) = Some (Refused machine.IdsSpent)
+flush_reply (Err flushes.NoMemory) = None

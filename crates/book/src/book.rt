@@ -1,30 +1,45 @@
-ghost use Rattle.std.specs.Prelude.{◌≡◌, ◌≤◌, ℕ, List, [], Some, option_map, IfOk};
+ghost use Rattle.std.specs.Prelude.{◌≡◌, ◌≤◌, ℕ, List, [], Some, option_map, IfOk, IfSome};
 ghost use Rattle.adb_model.specs.State.{State, fresh};
 ghost use Rattle.adb_model.specs.Call as machine;
 ghost use Rattle.adb_model.specs.History.{state_after};
 ghost use Rattle.adb_model.specs.Seen.{counts_of};
-ghost use Rattle.book_parts.specs.Stands.{Stands, After, AfterWithPins, HasHistory, HasHistoryWithPins};
+ghost use Rattle.append_vec.specs.Filled.{Fills};
+ghost use Rattle.flush_plan.specs.Jobs.{IsOpenJob};
+ghost use Rattle.book_parts.specs.Stands.{Stands, After, with_event, AfterWithPins, HasHistory, HasHistoryWithPins};
 ghost use Rattle.book_parts.specs.Pins.{HoldsPins};
 ghost use Rattle.book_parts.specs.Keys.{IsNextKey};
-ghost use Rattle.book.specs.Replies.{store_reply, root_reply, purge_reply, load_reply};
+ghost use Rattle.pass_pins.specs.Pins.{without_one};
+ghost use Rattle.book.specs.Replies.{flush_reply, store_reply, root_reply, purge_reply, load_reply, unpin_reply};
+ghost use Rattle.book.specs.Pinned.{IsThere, pins_after};
 
+use crate::flushing::{spent, why_not};
 use crate::loading::{Found, FoundAt, latest};
+use crate::pinning::{Cells, Held, pin};
 use crate::purging::leave;
-use crate::refusals::{LoadRefusal, RootRefusal, Rooted, StoreRefusal};
+use crate::refusals::{FlushRefusal, LoadRefusal, NotPinned, RootRefusal, Rooted, StoreRefusal};
 use crate::rooting::rooted_by;
 use crate::storing::enter;
 use accounts_index::AccountsIndex;
 use adb_model::{Account, Key, Slot, Stats, View};
+use append_vec::{Filled, filled_rows_are_the_same};
 use book_parts::{
-    load_stands, new_parts_stand, next_key_stands, purge_stands, root_stands, stats_stand,
-    store_stands,
+    flush_begin_stands, flush_end_stands, load_stands, new_parts_stand, next_key_stands,
+    purge_stands, root_stands, stats_stand, store_stands, stored_load_stands, sums_fit,
+    unpin_stands,
 };
+use cell_table::CellTable;
+use flush_plan::FlushJob;
 use pass_pins::{MAX_PINS, PassPins};
+use slot_list::Place;
 use std::alloc::{AllocError, Global};
 use std::marker::Model;
 use std::sync::Arc;
+use storage_map::StorageMap;
 use view_sets::RootSet;
 use write_cache::WriteCache;
+
+/// The most storages of a book.
+pub const MAX_STORAGES: usize = 1_048_576;
 
 /// The accounts of a store, by what the plain machine says of them.
 ///
@@ -38,10 +53,13 @@ pub struct Book {
     roots: RootSet,
     /// Versions that newer roots up to this slot hide may be dropped.
     cleaned: Slot,
-    /// The most bytes that the storages may have together.
-    budget: u64,
+    /// The storages, each in a cell.
+    cells: Cells,
+    /// Of each slot the storage in use, and the one that is being filled.
+    map: StorageMap,
     /// The id of the next storage.
     next_id: u64,
+    alloc: Global,
 }
 
 impl Model for Book {
@@ -70,8 +88,10 @@ impl Book {
             cache: WriteCache::new(alloc),
             roots: RootSet::new(alloc),
             cleaned: 0,
-            budget,
+            cells: CellTable::new(alloc, budget, MAX_STORAGES),
+            map: StorageMap::new(alloc),
             next_id: first_id,
+            alloc,
         })
     }
 
@@ -129,7 +149,9 @@ impl Book {
         Ok(leave(&mut self.index, &mut self.cache, slot))
     }
 
-    /// What a view sees of a key, for the pass whose pins are in hand: `None` where it sees no account.
+    /// What a view sees of a key, for the pass whose pins are in hand: `None` where it sees no account. Where
+    /// it is found in a storage, the pass has one pin more then, of this storage, which keeps it. The one memory
+    /// that it takes is for an `Arc`, before anything changes.
     ///
     /// # Errors
     /// `ViewTooOld` exactly where the view's greatest root is below the slot up to which was cleaned; else
@@ -143,9 +165,12 @@ impl Book {
         requires { HasHistoryWithPins self.old pins.old }
         ensures stands { (m0 : State) (h : List machine.Event) → Stands self.old m0 h → HoldsPins pins.old (state_after m0 h)
             → AfterWithPins self.new pins.new m0 h (machine.Load view.now key.now.0) (load_reply result) }
-        ensures same_pins { pins.new ≡ pins.old }
+        ensures there { IfOk result (λ found. IfSome found (λ f. IsThere key.now.0 f.at)) }
+        ensures pins { pins.new ≡ pins_after result pins.old }
+        ensures pass { pins.new.pass ≡ pins.old.pass }
     {
         load_stands();
+        stored_load_stands();
         let max_root = view.max_root();
         if max_root < self.cleaned {
             let cleaned = self.cleaned;
@@ -162,13 +187,111 @@ impl Book {
         if version.tomb {
             return Ok(None);
         }
-        match self.cache.get(version.slot, key) {
-            Some(account) => Ok(Some(Found {
-                slot: version.slot,
-                at: FoundAt::Cached(account.clone()?),
-            })),
-            None => unreachable!(),
+        match version.place {
+            Place::Cached => match self.cache.get(version.slot, key) {
+                Some(account) => Ok(Some(Found {
+                    slot: version.slot,
+                    at: FoundAt::Cached(account.clone()?),
+                })),
+                None => unreachable!(),
+            },
+            Place::Stored { cell, offset } => {
+                let Held { id, sealed } = pin(&mut self.cells, cell)?;
+                pins.add(id);
+                Ok(Some(Found {
+                    slot: version.slot,
+                    at: FoundAt::Stored { id, sealed, offset },
+                }))
+            }
         }
+    }
+
+    /// The pass whose pins are in hand lets go of a storage, by its id. It takes no memory.
+    ///
+    /// # Errors
+    /// `NotPinned` exactly where the pass has no pin of the storage.
+    pub fn unpin(&mut self, pins: &mut PassPins, id: u64) -> Result<(), NotPinned>
+        requires { HasHistoryWithPins self.old pins.old }
+        ensures stands { (m0 : State) (h : List machine.Event) → Stands self.old m0 h → HoldsPins pins.old (state_after m0 h)
+            → AfterWithPins self.new pins.new m0 h (machine.Unpin id) (Some (unpin_reply result)) }
+        ensures pins { pins.new ≡ record pins.old { pins = without_one id pins.old.pins } }
+        ensures pass { pins.new.pass ≡ pins.old.pass }
+    {
+        unpin_stands();
+        if !pins.take(id) {
+            return Err(NotPinned { id });
+        }
+        let Some(cell) = self.cells.cell_of(id) else {
+            unreachable!();
+        };
+        self.cells.unpin(cell);
+        Ok(())
+    }
+
+    /// Begins to flush a root: its rows in the write cache are to go to a new storage, which the job is to be
+    /// filled with. It takes all the room that the flush's end needs.
+    ///
+    /// # Errors
+    /// `NotRooted` exactly where the slot is no root; else `NothingCached` exactly where nothing of it is in the
+    /// write cache; else `Flushing` exactly where a flush of it is open; else `Full` exactly where its bytes and
+    /// those of all storages are above the budget; else `NoCell` exactly where there are 1,048,576 storages; else
+    /// `IdsSpent` exactly where the next id would be 2^64 - 1.
+    pub fn flush_begin(&mut self, slot: Slot) -> Result<FlushJob, FlushRefusal>
+        ensures stands { (m0 : State) (h : List machine.Event) (pass : ℕ) → Stands self.old m0 h
+            → After self.new m0 h pass (machine.FlushBegin slot) (flush_reply result) }
+        ensures opens { (m0 : State) (h : List machine.Event) (pass : ℕ) → Stands self.old m0 h
+            → IfOk result (λ job. IsOpenJob job (state_after m0 (with_event h pass (machine.FlushBegin slot) (flush_reply result)))) }
+        ensures slot { IfOk result (λ job. job.slot ≡ slot) }
+    {
+        flush_begin_stands();
+        if let Some(refusal) = why_not(&self.roots, &self.cache, &self.cells, &self.map, slot) {
+            return Err(refusal);
+        }
+        if self.next_id == u64::MAX {
+            return Err(spent(&self.cache, &self.cells, slot));
+        }
+        let job = flush_plan::begin(
+            self.alloc,
+            slot,
+            self.next_id,
+            &self.cache,
+            &mut self.index,
+            &mut self.cells,
+            &mut self.map,
+        )?;
+        self.next_id += 1;
+        Ok(job)
+    }
+
+    /// Ends a flush: its storage comes into use, and the slot's rows are found there and no longer in the write
+    /// cache. It takes no memory.
+    pub fn flush_end(&mut self, job: FlushJob, filled: Filled)
+        requires open { (m0 : State) × (h : List machine.Event) × Stands self.old m0 h × IsOpenJob job (state_after m0 h) }
+        requires filled { Fills job.slot job.id job.rows filled.sealed.value filled.places.items }
+        ensures { (m0 : State) (h : List machine.Event) (pass : ℕ) → Stands self.old m0 h → IsOpenJob job (state_after m0 h)
+            → After self.new m0 h pass (machine.FlushEnd job.slot) (Some machine.Done) }
+    {
+        flush_end_stands();
+        filled_rows_are_the_same();
+        flush_plan::end(
+            job,
+            filled.sealed,
+            &filled.places,
+            &mut self.cache,
+            &mut self.index,
+            &mut self.cells,
+            &mut self.map,
+        );
+    }
+
+    /// Gives a flush up: its storage leaves. It takes no memory.
+    pub fn flush_abort(&mut self, job: FlushJob)
+        requires { (m0 : State) × (h : List machine.Event) × Stands self.old m0 h × IsOpenJob job (state_after m0 h) }
+        ensures { (m0 : State) (h : List machine.Event) (pass : ℕ) → Stands self.old m0 h → IsOpenJob job (state_after m0 h)
+            → After self.new m0 h pass (machine.FlushAbort job.slot) (Some machine.Done) }
+    {
+        flush_end_stands();
+        flush_plan::abort(job, &mut self.index, &mut self.cells, &mut self.map);
     }
 
     /// What the book has, by counts that are kept.
@@ -177,15 +300,20 @@ impl Book {
             → After self.now m0 h pass machine.Stats (Some (machine.Counted (counts_of result))) }
     {
         stats_stand();
+        sums_fit();
+        let counts = self.cells.counts();
+        // The sums are below 2^64, since the bytes of the storages are.
+        let _limit = self.cells.limit();
+        let (named, rows) = self.map.sums();
         Stats {
             cached: self.cache.total(),
-            filling: 0,
-            live: 0,
-            retired: 0,
-            named: 0,
-            rows: 0,
-            bytes: 0,
-            pins: 0,
+            filling: counts.filling,
+            live: counts.live,
+            retired: counts.retired,
+            named,
+            rows,
+            bytes: self.cells.used(),
+            pins: counts.pins,
         }
     }
 

@@ -4,7 +4,9 @@
 #![tactic(auto)]
 
 mod book;
+mod flushing;
 mod loading;
+mod pinning;
 mod purging;
 mod refusals;
 mod rooting;
@@ -12,6 +14,6 @@ mod storing;
 #[cfg(test)]
 mod tests;
 
-pub use book::Book;
+pub use book::{Book, MAX_STORAGES};
 pub use loading::{Found, FoundAt};
-pub use refusals::{LoadRefusal, RootRefusal, Rooted, StoreRefusal};
+pub use refusals::{FlushRefusal, LoadRefusal, NotPinned, RootRefusal, Rooted, StoreRefusal};

@@ -8,6 +8,7 @@ use slot_list::Version;
 use std::marker::Brand;
 use std::sync::Arc;
 use std::sync::ledger::{Blank, Ledger};
+use vec_scan::Sealed;
 use view_sets::RootSet;
 
 /// The version that a view sees of a key.
@@ -23,6 +24,12 @@ pub struct Found {
 pub enum FoundAt {
     /// In the write cache; this is the account.
     Cached(Arc<Account>),
+    /// In the image of the storage with this id, as the record at the offset.
+    Stored {
+        id: u64,
+        sealed: Arc<Sealed>,
+        offset: usize,
+    },
 }
 
 fn latest_by<L: Ledger>(

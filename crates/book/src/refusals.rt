@@ -1,6 +1,8 @@
 ghost use Rattle.std.specs.Prelude.{◌≡◌};
 
 use adb_model::Slot;
+use cell_table::CellFault;
+use flush_plan::BeginFault;
 use std::alloc::AllocError;
 
 /// Why nothing was stored.
@@ -38,6 +40,31 @@ pub enum LoadRefusal {
     NoMemory,
 }
 
+/// The pass has no pin of the storage with this id.
+#[derive(Clone, Copy, Debug, PartialEq, Eq)]
+pub struct NotPinned {
+    pub id: u64,
+}
+
+/// Why no flush began.
+#[derive(Clone, Copy, Debug, PartialEq, Eq)]
+pub enum FlushRefusal {
+    /// The slot is no root.
+    NotRooted { slot: Slot },
+    /// Nothing of the slot is in the write cache.
+    NothingCached { slot: Slot },
+    /// A flush of the slot is open, which fills the storage with this id.
+    Flushing { slot: Slot, id: u64 },
+    /// `used` bytes of storages and the `wanted` ones are above the budget.
+    Full { used: u64, wanted: u128, limit: u64 },
+    /// There are as many storages as there may be.
+    NoCell { limit: u64 },
+    /// The last id was given out.
+    IdsSpent,
+    /// Want of memory.
+    NoMemory,
+}
+
 impl From<AllocError> for StoreRefusal {
     ghost use Rattle.std.specs.Prelude.{◌≡◌};
     ghost use Rattle.book.specs.declared.refusals.StoreRefusal.TheVariants as stores;
@@ -68,5 +95,52 @@ impl From<AllocError> for LoadRefusal {
 
     fn from(_: AllocError) -> Self {
         LoadRefusal::NoMemory
+    }
+}
+
+impl From<CellFault> for FlushRefusal {
+    ghost use Rattle.std.specs.Prelude.{◌≡◌};
+    ghost use Rattle.book.specs.Flushing.{refusal_for};
+
+    ghost from_gives = { λ fault e. e ≡ refusal_for fault };
+
+    fn from(fault: CellFault) -> Self {
+        match fault {
+            CellFault::Full {
+                used,
+                wanted,
+                limit,
+            } => FlushRefusal::Full {
+                used,
+                wanted,
+                limit,
+            },
+            CellFault::NoCell { limit } => FlushRefusal::NoCell { limit },
+            CellFault::NoMemory => FlushRefusal::NoMemory,
+        }
+    }
+}
+
+impl From<BeginFault> for FlushRefusal {
+    ghost use Rattle.std.specs.Prelude.{◌≡◌};
+    ghost use Rattle.flush_plan.specs.Causes.{cell_fault};
+    ghost use Rattle.book.specs.Flushing.{refusal_for};
+
+    ghost from_gives = { λ fault e. e ≡ refusal_for (cell_fault fault) };
+
+    fn from(fault: BeginFault) -> Self {
+        match fault {
+            BeginFault::Full {
+                used,
+                wanted,
+                limit,
+            } => FlushRefusal::Full {
+                used,
+                wanted,
+                limit,
+            },
+            BeginFault::NoCell { limit } => FlushRefusal::NoCell { limit },
+            BeginFault::NoMemory => FlushRefusal::NoMemory,
+        }
     }
 }

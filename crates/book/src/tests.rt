@@ -1,6 +1,10 @@
-use crate::{Book, Found, FoundAt, RootRefusal, Rooted, StoreRefusal};
+ghost use Rattle.std.specs.Prelude.{IfOk, OnOk};
+ghost use Rattle.book_parts.specs.Stands.{HasHistoryWithPins};
+
+use crate::{Book, FlushRefusal, Found, FoundAt, NotPinned, RootRefusal, Rooted, StoreRefusal};
 use adb_model::{Account, Key, View};
-use book_parts::pins_are_held;
+use append_vec::fill;
+use book_parts::{pins_are_held, pins_stay};
 use pass_pins::PassPins;
 use std::alloc::Global;
 use std::sync::Arc;
@@ -13,6 +17,7 @@ enum Ask {
     Root(u64),
     Purge(u64),
     Load(Option<u64>, u64, u8),
+    Unpin(u64),
     Cached,
     KeyAfter(Option<u8>),
 }
@@ -23,6 +28,7 @@ enum Answer {
     Done,
     NotAbove(u64, u64),
     IsRoot(u64),
+    NotPinned(u64),
     Count(u64),
     Nothing,
     Found(u64, u64),
@@ -44,22 +50,31 @@ fn account(alloc: Global, lamports: u64) -> Result<Arc<Account>, Fail> {
     }
 }
 
-// What a pass without pins is answered.
+// A new book, and the pins of a pass.
+fn begun(alloc: Global) -> Result<(Book, PassPins), Fail>
+    ensures { IfOk result (λ b. HasHistoryWithPins b.0 b.1) }
+{
+    pins_are_held();
+    Ok((Book::new(alloc, 408, 1)?, PassPins::new(3)))
+}
+
+// What the pass is answered.
 fn loaded(
     alloc: Global,
     book: &mut Book,
+    pins: &mut PassPins,
     fork: Option<u64>,
     max_root: u64,
     first: u8,
-) -> Result<Answer, Fail> {
+) -> Result<Answer, Fail>
+    requires { HasHistoryWithPins book.old pins.old }
+    ensures { OnOk result (HasHistoryWithPins book.new pins.new) }
+{
     let view = match fork {
         Some(slot) => View::new(alloc, &[slot], max_root)?,
         None => View::new(alloc, &[], max_root)?,
     };
-    let mut pins = PassPins::new(3);
-    book.has_history();
-    pins_are_held();
-    match book.load(&mut pins, &view, &key(first)) {
+    match book.load(pins, &view, &key(first)) {
         Ok(
             Some(
                 Found {
@@ -68,12 +83,17 @@ fn loaded(
                 },
             ),
         ) => Ok(Answer::Found(slot, account.head().lamports)),
+        Ok(Some(_)) => Err("in a storage")?,
         Ok(None) => Ok(Answer::Nothing),
         Err(_) => Err("refused")?,
     }
 }
 
-fn answered(alloc: Global, book: &mut Book, ask: Ask) -> Result<Answer, Fail> {
+fn answered(alloc: Global, book: &mut Book, pins: &mut PassPins, ask: Ask) -> Result<Answer, Fail>
+    requires { HasHistoryWithPins book.old pins.old }
+    ensures { OnOk result (HasHistoryWithPins book.new pins.new) }
+{
+    pins_stay();
     match ask {
         Ask::Store(slot, first, lamports) => {
             let account = account(alloc, lamports)?;
@@ -94,7 +114,11 @@ fn answered(alloc: Global, book: &mut Book, ask: Ask) -> Result<Answer, Fail> {
             Ok(keys) => Ok(Answer::Count(keys)),
             Err(Rooted { slot }) => Ok(Answer::IsRoot(slot)),
         },
-        Ask::Load(fork, max_root, first) => loaded(alloc, book, fork, max_root, first),
+        Ask::Load(fork, max_root, first) => loaded(alloc, book, pins, fork, max_root, first),
+        Ask::Unpin(id) => match book.unpin(pins, id) {
+            Ok(()) => Ok(Answer::Done),
+            Err(NotPinned { id }) => Ok(Answer::NotPinned(id)),
+        },
         Ask::Cached => Ok(Answer::Count(book.stats().cached)),
         Ask::KeyAfter(after) => match book.key_after(after.map(key).as_ref()) {
             Some(key) => Ok(Answer::Key(key.0[0])),
@@ -114,6 +138,7 @@ fn a_book_answers_as_the_rows_say(rt: HostRuntime) -> Result<(), Fail> {
             (Ask::Load(None, ALL, 1), Answer::Nothing),
             (Ask::Root(5), Answer::Done),
             (Ask::Load(None, ALL, 1), Answer::Found(5, 100)),
+            (Ask::Unpin(1), Answer::NotPinned(1)),
         ]
         .as_slice(),
         [
@@ -167,13 +192,26 @@ fn a_book_answers_as_the_rows_say(rt: HostRuntime) -> Result<(), Fail> {
         .as_slice(),
     ];
     for row in rows {
-        let mut book = Book::new(alloc, 408, 1)?;
+        let (mut book, mut pins) = begun(alloc)?;
         for (ask, expected) in row {
-            let answer = answered(alloc, &mut book, *ask)?;
+            let answer = answered(alloc, &mut book, &mut pins, *ask)?;
             assert_eq!(rt; answer, *expected, "{ask:?}");
         }
     }
     Ok(())
+}
+
+// Flushes a slot to its end, and says whether it could.
+fn flushed<R: AllocGlobal>(rt: &R, book: &mut Book, slot: u64) -> Result<bool, Fail> {
+    book.has_history();
+    match book.flush_begin(slot) {
+        Ok(job) => {
+            let filled = fill(rt, slot, job.id(), job.accounts(), 1)?;
+            book.flush_end(job, filled);
+            Ok(true)
+        }
+        Err(_) => Ok(false),
+    }
 }
 
 #[test]
@@ -182,14 +220,31 @@ fn a_book_lets_go_of_what_it_no_longer_needs(rt: HostRuntime) -> Result<(), Fail
     let mut book = Book::new(alloc, 408, 1)?;
     let mut stored_over = account(alloc, 1)?;
     let mut purged = account(alloc, 2)?;
-    let mut kept = account(alloc, 3)?;
+    let mut flushed_out = account(alloc, 3)?;
     book.store(1, key(1), stored_over.clone()?)?;
     book.store(2, key(1), purged.clone()?)?;
-    book.store(3, key(1), kept.clone()?)?;
+    book.store(3, key(1), flushed_out.clone()?)?;
     book.store(1, key(1), account(alloc, 4)?)?;
     assert_eq!(rt; book.purge(2), Ok(1));
+    assert_eq!(rt; book.root(3), Ok(()));
+    assert!(rt; Arc::get_mut(&mut flushed_out).is_none());
+    assert!(rt; flushed(&rt, &mut book, 3)?);
     assert!(rt; Arc::get_mut(&mut stored_over).is_some());
     assert!(rt; Arc::get_mut(&mut purged).is_some());
-    assert!(rt; Arc::get_mut(&mut kept).is_none());
+    assert!(rt; Arc::get_mut(&mut flushed_out).is_some());
+    Ok(())
+}
+
+#[test]
+fn the_last_id_is_not_given(rt: HostRuntime) -> Result<(), Fail> {
+    let alloc = rt.alloc();
+    let mut book = Book::new(alloc, 1000, u64::MAX - 1)?;
+    for slot in [1, 2] {
+        book.store(slot, key(1), account(alloc, slot)?)?;
+        assert_eq!(rt; book.root(slot), Ok(()));
+    }
+    assert!(rt; flushed(&rt, &mut book, 1)?);
+    assert_eq!(rt; book.flush_begin(2).err(), Some(FlushRefusal::IdsSpent));
+    assert_eq!(rt; (book.stats().live, book.stats().bytes), (1, 136));
     Ok(())
 }

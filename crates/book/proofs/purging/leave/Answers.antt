@@ -7,7 +7,7 @@ use Rattle.write_cache.specs.Rows.{rows}
 use Rattle.adb_model.specs.State.{Row}
 use Rattle.adb_model.specs.Presence.{has_row}
 use Rattle.book_parts.specs.Reflects.{indexed}
-use Rattle.book.proofs.Versions.{marks_without, same_holds, holds_again, version_there, unmarked}
+use Rattle.book.proofs.Versions.{entries_without, same_holds, holds_again, version_there, no_entry_there}
 use Rattle.book.proofs.Rows.{row_more, row_new, row_there, account_some, gone_more, gone_all}
 use Rattle.book.proofs.purging.leave.Goals as goal
 
@@ -30,7 +30,7 @@ loop-at-preserved c =
     let all = rows c.args.cache.now slot in
     let row : slice_get all c.loop-at.at ≡ Some r = sym c.in-Some.ensures in
     record {
-      versions = λ k s. marks_without c.lookups_follow_edits.ensures.without c.loop-at.index c.drop_version.new.self r.key slot c.drop_version.ensures k s
+      versions = λ k s. entries_without c.lookups_follow_edits.ensures.without c.loop-at.index c.drop_version.new.self r.key slot c.drop_version.ensures k s
           ∙ ap (cond (eqb slot s && bytes_eq r.key k) None) (c.loop-at.invariant.versions k s)
           ∙ gone_more (eqb slot s) (has_row k (take c.loop-at.at all)) (bytes_eq r.key k) (indexed c.args.index.now s k)
           ∙ ap (λ b. cond (eqb slot s && b) None (indexed c.args.index.now s k)) (sym (row_more all c.loop-at.at r k row));
@@ -47,7 +47,7 @@ returns c =
     record {
       versions = λ k s. c.loop-at.invariant.versions k s ∙ ap (λ rs. cond (eqb slot s && has_row k rs) None (indexed c.args.index.now s k)) whole
           ∙ gone_all (eqb slot s) (has_row k all) (indexed c.args.index.now s k) (λ here none.
-          ap (λ (n : ℕ). indexed c.args.index.now n k) (sym (eqb-true slot s here)) ∙ unmarked c.args.index.now slot k (c.requires.agree k ∙ account_some all k ∙ none));
+          ap (λ (n : ℕ). indexed c.args.index.now n k) (sym (eqb-true slot s here)) ∙ no_entry_there c.args.index.now slot k (c.requires.agree k ∙ account_some all k ∙ none));
       holds = c.loop-at.invariant.holds;
       dropped = c.drop_slot.ensures.rows;
       counted = c.drop_slot.ensures.total;
