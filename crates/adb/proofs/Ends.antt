@@ -7,7 +7,7 @@ use Rattle.std.proofs.Math.Seq.{take-length}
 use Rattle.stream_io.specs.Stream.{Rose, HasCause, AppendsFront}
 use Rattle.stream_io.specs.declared.fault.Failed.{Failed}
 use Rattle.replay.specs.Journaled.{PlayedAll, CutShort}
-use Rattle.adb_model.specs.Plays.{Line}
+use Rattle.script.specs.Said.{Said}
 use Rattle.adb.specs.declared.running.End.TheVariants as ends
 use Rattle.adb.specs.Run.{EndsWith, IsDone, IsCut, Ended}
 
@@ -21,16 +21,16 @@ line_ends (Ok u) a b k k' line ok err cause = record { front = front_whole a b l
 line_ends (Err e) a b k k' line ok err cause = record { front = err; whole = λ no. absurd (no cause.failed) }
 
 -- a journal that was taken whole was taken in part
-all_cut : (a b c : Option (List ℕ)) → Keeps b c → (lines : List Line) → PlayedAll a b lines → CutShort a c lines
-all_cut a b c keep lines p = record {
-  first = lines;
+all_cut : (a b c : Option (List ℕ)) → Keeps b c → (said : Said) → PlayedAll a b said → CutShort a c said
+all_cut a b c keep said p = record {
+  first = said.lines;
   rest = [];
-  split = sym (append-nil lines);
+  split = sym (append-nil said.lines);
   part = record { history = p.history; legal = p.legal; plays = p.plays; front = front_whole a c _ (Appends-kept a b c _ p.whole keep) };
 }
 
 done_cut : (left left' a b c : Option (List ℕ)) → Keeps b c → IsDone left left' a b → IsCut left left' a c
-done_cut left left' a b c keep h = record { bytes = h.bytes; read = h.read; lines = h.lines; script = h.script; journal = all_cut a b c keep h.lines h.journal }
+done_cut left left' a b c keep h = record { bytes = h.bytes; read = h.read; said = h.said; script = h.script; journal = all_cut a b c keep h.said h.journal }
 
 rose_later : (k k1 k2 : ℕ) → k ≤ k1 → Rose k1 k2 → Rose k k2
 rose_later k k1 k2 le h = omega arith

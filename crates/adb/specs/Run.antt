@@ -3,7 +3,7 @@ use Rattle.std.specs.Prelude.{◌≡◌, ◌⊎◌, ℕ, ◌<◌, ◌≤◌, Boo
 use Rattle.std.specs.Str.{bytes_eq}
 use Rattle.std.specs.Io.KnownBytes.{Appends, Keeps, IsAtEnd, Consumes}
 use Rattle.stream_io.specs.Stream.{Rose, AppendsFront}
-use Rattle.adb_model.specs.Plays.{Line}
+use Rattle.script.specs.Said.{Said}
 use Rattle.script.specs.Grammar.{IsScript, IsNoScript}
 use Rattle.replay.specs.Journaled.{PlayedAll, CutShort}
 use Rattle.adb.specs.declared.running.End.{End}
@@ -39,21 +39,21 @@ pub record WasRead (left left' : Option (List ℕ)) (bytes : List ℕ) : Type 0 
   pub end : IsAtEnd left'
   pub most : length bytes ≤ 268435456
 
--- the source gave a script, and the sink took the journal of the legal history that plays all its lines
+-- the source gave a script, and the sink took its whole journal, of a legal history that plays all its lines
 pub record IsDone (left left' taken taken' : Option (List ℕ)) : Type 0 where
   pub bytes : List ℕ
   pub read : WasRead left left' bytes
-  pub lines : List Line
-  pub script : IsScript bytes lines
-  pub journal : PlayedAll taken taken' lines
+  pub said : Said
+  pub script : IsScript bytes said
+  pub journal : PlayedAll taken taken' said
 
 -- the source gave a script, and the sink took some of the front of its journal
 pub record IsCut (left left' taken taken' : Option (List ℕ)) : Type 0 where
   pub bytes : List ℕ
   pub read : WasRead left left' bytes
-  pub lines : List Line
-  pub script : IsScript bytes lines
-  pub journal : CutShort taken taken' lines
+  pub said : Said
+  pub script : IsScript bytes said
+  pub journal : CutShort taken taken' said
 
 -- the source gave bytes that are no script
 pub record GaveNoScript (left left' : Option (List ℕ)) : Type 0 where
@@ -74,7 +74,7 @@ IsRefused left left' taken taken' faults faults' =
 -- the source tells bytes that are a script, and not too many
 abbrev pub TellsScript : Option (List ℕ) → Type 0
 TellsScript None = ⊥
-TellsScript (Some bytes) = (length bytes ≤ 268435456) × ((lines : List Line) × IsScript bytes lines)
+TellsScript (Some bytes) = (length bytes ≤ 268435456) × ((said : Said) × IsScript bytes said)
 
 -- the source tells bytes that are no script, or too many
 abbrev pub TellsNoScript : Option (List ℕ) → Type 0
@@ -97,9 +97,9 @@ status_of ends.NoMemory = 6
 -- how the playing of some bytes ended, by its cause
 abbrev pub PlayedBytes : List ℕ → Option (List ℕ) → Option (List ℕ) → ℕ → ℕ → End → Type 0
 PlayedBytes bytes taken taken' k k' ends.Refused = IsNoScript bytes × EndsWith taken taken' k k' refused_line
-PlayedBytes bytes taken taken' k k' ends.Done = (k' ≡ k) × (lines : List Line) × IsScript bytes lines × PlayedAll taken taken' lines
-PlayedBytes bytes taken taken' k k' ends.SinkFault = Rose k k' × (lines : List Line) × IsScript bytes lines × CutShort taken taken' lines
-PlayedBytes bytes taken taken' k k' ends.NoMemory = Keeps taken taken' ⊎ ((lines : List Line) × IsScript bytes lines × CutShort taken taken' lines)
+PlayedBytes bytes taken taken' k k' ends.Done = (k' ≡ k) × (said : Said) × IsScript bytes said × PlayedAll taken taken' said
+PlayedBytes bytes taken taken' k k' ends.SinkFault = Rose k k' × (said : Said) × IsScript bytes said × CutShort taken taken' said
+PlayedBytes bytes taken taken' k k' ends.NoMemory = Keeps taken taken' ⊎ ((said : Said) × IsScript bytes said × CutShort taken taken' said)
 PlayedBytes bytes taken taken' k k' ends.Usage = ⊥
 PlayedBytes bytes taken taken' k k' ends.ReadFault = ⊥
 PlayedBytes bytes taken taken' k k' ends.TooLong = ⊥

@@ -55,12 +55,14 @@ fn end_with<K: Sink>(sink: &mut K, line: &str)
     let _ = write_whole(sink, line.as_bytes());
 }
 
-// Plays the script that some bytes are.
-fn play<R: AllocGlobal, K: Sink>(rt: &R, bytes: &[u8], sink: &mut K) -> End
-    ensures played { PlayedBytes bytes.now (K.taken sink.old) (K.taken sink.new) (K.faults sink.old) (K.faults sink.new) result }
+// Plays the script that some bytes are. Their memory is given up before the first line is played.
+fn play<R: AllocGlobal, K: Sink>(rt: &R, bytes: Vec<u8>, sink: &mut K) -> End
+    ensures played { PlayedBytes bytes.items (K.taken sink.old) (K.taken sink.new) (K.faults sink.old) (K.faults sink.new) result }
     ensures later { K.faults sink.old ≤ K.faults sink.new }
 {
-    match parse(rt.alloc(), bytes) {
+    let parsed = parse(rt.alloc(), &bytes);
+    drop(bytes);
+    match parsed {
         Err(ScriptFault::NoMemory) => End::NoMemory,
         Err(ScriptFault::Form) => {
             end_with(sink, "script: refused\n");
@@ -92,7 +94,7 @@ fn run_unflushed<R: AllocGlobal, S: Source, K: Sink>(
         return End::Usage;
     }
     match read_whole(rt.alloc(), source, MAX_SCRIPT_LEN) {
-        Ok(bytes) => play(rt, &bytes, sink),
+        Ok(bytes) => play(rt, bytes, sink),
         Err(ReadFault::Failed) => {
             end_with(sink, "adb: read fault\n");
             End::ReadFault

@@ -117,6 +117,31 @@ fn scripts_have_these_journals(rt: HostRuntime) -> Result<(), Fail> {
             "1 store 5 01 100 = ok\n1 get 5@all 01 = some 5 cached 100 00 0 0 -\n",
             "1 store 5 01 100 00 0 0 - = ok\n1 load 5@all 01 = some 5 cached 100 00 0 0 -\n",
         ),
+        (
+            "a flush of a slot that is no root, is empty, is open, is done",
+            "1 store 5 01 1\n1 flush-begin 5\n1 root 4\n1 flush-begin 4\n1 root 5\n1 flush-begin 5\n1 flush-begin 5\n1 flush-end 5\n1 flush-begin 5\n1 flush-end 5\n",
+            "1 store 5 01 1 00 0 0 - = ok\n1 flush-begin 5 = not-rooted 5\n1 root 4 = ok\n1 flush-begin 4 = nothing-cached 4\n1 root 5 = ok\n1 flush-begin 5 = ok 1 136\n1 flush-begin 5 = flushing 5 1\n1 flush-end 5 = ok\n1 flush-begin 5 = nothing-cached 5\n1 flush-end 5 = not-flushing 5\n",
+        ),
+        (
+            "a flush that is given up, twice, and one that isn't",
+            "1 store 5 01 1\n1 root 5\n1 flush-begin 5\n1 flush-abort 5\n1 flush-abort 5\n1 flush 5\n",
+            "1 store 5 01 1 00 0 0 - = ok\n1 root 5 = ok\n1 flush-begin 5 = ok 1 136\n1 flush-abort 5 = ok\n1 flush-abort 5 = not-flushing 5\n1 flush-begin 5 = ok 2 136\n1 flush-end 5 = ok\n",
+        ),
+        (
+            "a budget of as many bytes as are wanted",
+            "budget 136\n1 store 2 01 1\n1 root 2\n1 flush 2\n",
+            "budget 136 = ok\n1 store 2 01 1 00 0 0 - = ok\n1 root 2 = ok\n1 flush-begin 2 = ok 1 136\n1 flush-end 2 = ok\n",
+        ),
+        (
+            "a budget of one byte less",
+            "budget 135\n1 store 2 01 1\n1 root 2\n1 flush 2\n",
+            "budget 135 = ok\n1 store 2 01 1 00 0 0 - = ok\n1 root 2 = ok\n1 flush-begin 2 = full 0 136 135\n",
+        ),
+        (
+            "loads of a stored account, and pins of two lanes",
+            "1 store 2 01 1\n1 root 2\n1 flush 2 16\n1 load -@all 01\n2 get -@all 01\n2 unpin 1\n1 stats\n1 unpin 1\n1 unpin 1\n",
+            "1 store 2 01 1 00 0 0 - = ok\n1 root 2 = ok\n1 flush-begin 2 = ok 1 136\n1 flush-end 2 = ok\n1 load -@all 01 = some 2 1 1 00 0 0 -\n2 load -@all 01 = some 2 1 1 00 0 0 -\n2 unpin 1 = ok\n2 unpin 1 = not-pinned 1\n1 stats = cached 0 filling 0 live 1 retired 0 named 1 rows 1 bytes 136 pins 1\n1 unpin 1 = ok\n1 unpin 1 = not-pinned 1\n",
+        ),
     ];
     for (name, script, journal) in table {
         let (status, wrote) = replayed(&rt, script, &[], &[])?;
@@ -143,6 +168,8 @@ fn what_is_no_script_is_refused_whole(rt: HostRuntime) -> Result<(), Fail> {
         "1 store 5 0 1",
         "1 get 5@All 01",
         "1 get 5@5 é1",
+        "1 flush 5 17",
+        "budget 1",
     ];
     for bad in table {
         let alloc = rt.alloc();

@@ -1,71 +1,54 @@
 -- Histories that play one line after another.
-use Rattle.std.proofs.Common.{◌≡◌, ℕ, List, [], ◌∷◌, ◌++◌, Option, None, Some, refl, sym, ap, ◌∙◌, subst, append_assoc}
+use Rattle.std.proofs.Common.{◌≡◌, ℕ, List, [], ◌∷◌, ◌++◌, map, Option, None, refl, sym, ap, ◌∙◌, subst, append_assoc}
 use Rattle.std.proofs.KnownBytes.{Appends-trans}
-use Rattle.std.proofs.lemmas.List.{append-nil}
-use Rattle.std.proofs.lemmas.List.Concat.{flat_map-cons, flat_map-append}
+use Rattle.std.proofs.lemmas.List.{append-nil, map_push}
+use Rattle.std.proofs.lemmas.List.Concat.{flat_map-append}
 use Rattle.stream_io.specs.Stream.{AppendsFront}
-use Rattle.adb_model.specs.Call.{Call, Reply, Event}
-use Rattle.adb_model.specs.State.{State}
-use Rattle.adb_model.specs.Step.{step}
-use Rattle.adb_model.specs.History.{state_after, IsLegal}
-use Rattle.adb_model.specs.Plays.{Line, Order, next_call, Plays}
+use Rattle.adb_model.specs.Call.{Event}
+use Rattle.adb_model.specs.Plays as machine
+use Rattle.adb_model.specs.Plays.{Follow, Plays}
+use Rattle.script.specs.Said.{Line, Said, line_played, lines_played, header_of, whole_journal}
 use Rattle.script.specs.Text.{text_of, journal_of}
 use Rattle.replay.specs.Standing.{Lanes}
-use Rattle.replay.specs.Journaled.{start, PlayedInPart}
-use Rattle.replay.specs.Playing.{event_of, HasPlayed, PlayedCall, CutCall}
-use Rattle.replay.proofs.Streams.{appends_as, front_then, front_none}
+use Rattle.replay.specs.Journaled.{start_of, PlayedInPart}
+use Rattle.replay.specs.Playing.{HasPlayed, PlayedLine, CutLine}
+use Rattle.replay.proofs.Streams.{appends_as, front_then}
 
-plays_append : (xs ys : List Line) (h g : List Event) → Plays xs h → Plays ys g → Plays (xs ++ ys) (h ++ g)
+plays_append : (xs ys : List machine.Line) (h g : List Event) → Plays xs h → Plays ys g → Plays (xs ++ ys) (h ++ g)
 plays_append [] ys h g p q = subst (λ (l : List Event). Plays ys (l ++ g)) (sym p) q
 plays_append (x ∷ xs) ys h g (group, rest, split, follow, plays) q =
     (group, rest ++ g, ap (λ (l : List Event). l ++ g) split ∙ append_assoc group rest g, follow, plays_append xs ys rest g plays q)
 
-journal_more : (h : List Event) (e : Event) → journal_of h ++ text_of e ≡ journal_of (h ++ e ∷ [])
-journal_more h e = sym (flat_map-append text_of h (e ∷ []) ∙ ap (λ (l : List ℕ). journal_of h ++ l) (flat_map-cons text_of e [] ∙ append-nil (text_of e)))
+-- a script with one more line
+abbrev pub with_line : Said → Line → Said
+with_line said l = record said { lines = said.lines ++ l ∷ [] }
 
--- each part of a legal history is legal where it begins
-abbrev pub EachLegal : Type 0
-EachLegal = (m : State) (h g : List Event) → IsLegal m (h ++ g) → IsLegal m h × IsLegal (state_after m h) g
+module _ (a b c : Option (List ℕ)) (said : Said) (l : Line) where
+  plays_more : (h g : List Event) → Plays (lines_played said) h → Follow (line_played l) None g → Plays (lines_played (with_line said l)) (h ++ g)
+  plays_more h g plays follow =
+      subst (λ (ls : List machine.Line). Plays ls (h ++ g)) (sym (map_push line_played said.lines l))
+      (plays_append (map line_played said.lines) (line_played l ∷ []) h g plays (g, [], sym (append-nil g), follow, refl))
 
--- made by a pass in this state, the call is all that the order asks for
-abbrev pub IsOneCall : Order → Call → State → ℕ → Type 0
-IsOneCall order call m pass = (next_call order None ≡ Some call) × (next_call order (Some (step m pass call).1) ≡ None)
-
-module _ (a b c : Option (List ℕ)) (lines : List Line) (lane : ℕ) (order : Order) (call : Call) (each_legal : EachLegal) where
-  one_line : (h : List Event) (reply : Reply) → Plays lines h → IsOneCall order call (state_after start h) lane → IsLegal start (h ++ event_of lane call reply ∷ [])
-      → Plays (lines ++ record { lane = lane; order = order } ∷ []) (h ++ event_of lane call reply ∷ [])
-  one_line h reply plays one legal =
-      let told : reply ≡ (step (state_after start h) lane call).1 = (each_legal start h (event_of lane call reply ∷ []) legal).1.0 in
-      let ends : next_call order (Some reply) ≡ None = ap (λ (r : Reply). next_call order (Some r)) told ∙ one.1 in
-      plays_append lines (record { lane = lane; order = order } ∷ []) h (event_of lane call reply ∷ []) plays (event_of lane call reply ∷ [], [], refl, (refl, one.0, ends), refl)
+  journal_more : (h g : List Event) → whole_journal said h ++ journal_of g ≡ whole_journal said (h ++ g)
+  journal_more h g = append_assoc (header_of said.budget) (journal_of h) (journal_of g) ∙ ap (λ (t : List ℕ). header_of said.budget ++ t) (sym (flat_map-append text_of h g))
 
   -- one more line was played
-  pub line_played : (p q : Lanes) (before : HasPlayed p a b lines) → IsOneCall order call (state_after start before.done.history) lane
-      → PlayedCall q before.done.history b c lane call → HasPlayed q a c (lines ++ record { lane = lane; order = order } ∷ [])
-  line_played p q before one made = record {
+  pub more_played : (p q : Lanes) (before : HasPlayed p a b said) → PlayedLine q (start_of said) before.done.history b c (line_played l) → HasPlayed q a c (with_line said l)
+  more_played p q before made = record {
     done = record {
-      history = before.done.history ++ event_of lane call made.reply ∷ [];
+      history = before.done.history ++ made.events;
       legal = made.stands.book.legal;
-      plays = one_line before.done.history made.reply before.done.plays one made.stands.book.legal;
-      whole = appends_as a c _ _ (journal_more before.done.history (event_of lane call made.reply)) (Appends-trans a b c _ _ before.done.whole made.line);
+      plays = plays_more before.done.history made.events before.done.plays made.follow;
+      whole = appends_as a c _ _ (journal_more before.done.history made.events) (Appends-trans a b c _ _ before.done.whole made.lines);
     };
     stands = made.stands;
   }
 
   -- one more line was played in part
-  pub line_cut : (p : Lanes) (before : HasPlayed p a b lines) → IsOneCall order call (state_after start before.done.history) lane
-      → CutCall before.done.history b c lane call → PlayedInPart a c (lines ++ record { lane = lane; order = order } ∷ [])
-  line_cut p before one cut = record {
-    history = before.done.history ++ event_of lane call cut.reply ∷ [];
+  pub more_cut : (p : Lanes) (before : HasPlayed p a b said) → CutLine (start_of said) before.done.history b c (line_played l) → PlayedInPart a c (with_line said l)
+  more_cut p before cut = record {
+    history = before.done.history ++ cut.events;
     legal = cut.legal;
-    plays = one_line before.done.history cut.reply before.done.plays one cut.legal;
-    front = subst (λ (t : List ℕ). AppendsFront a c t) (journal_more before.done.history (event_of lane call cut.reply)) (front_then a b c _ _ before.done.whole cut.front);
+    plays = plays_more before.done.history cut.events before.done.plays cut.follow;
+    front = subst (λ (t : List ℕ). AppendsFront a c t) (journal_more before.done.history cut.events) (front_then a b c _ _ before.done.whole cut.front);
   }
-
--- a call of which the sink took nothing
-pub not_told : (h : List Event) (b : Option (List ℕ)) (lane : ℕ) (call : Call) → IsLegal start (h ++ event_of lane call (step (state_after start h) lane call).1 ∷ []) → CutCall h b b lane call
-not_told h b lane call legal = record {
-  reply = (step (state_after start h) lane call).1;
-  legal = legal;
-  front = front_none b (text_of (event_of lane call (step (state_after start h) lane call).1));
-}

@@ -1,35 +1,28 @@
--- What the lanes have in hand, while nobody has pinned anything.
-use Rattle.std.proofs.Common.{◌≡◌, ℕ, zero, suc, ◌+◌, ◌-◌, ◌<◌, ◌≤◌, ◌==◌, List, [], ◌∷◌, ◌++◌, length, get_or, set, Option, Some, None, refl, sym, ap, subst, ◌∙◌, ◌⊎◌, inl, inr, arith, count_by, slice_get}
-use Rattle.std.proofs.lemmas.Option.{slice_get-get_or, slice_get_within, same_Some}
-use Rattle.std.proofs.lemmas.List.{set-get_or}
+-- What the lanes have in hand after a call.
+use Rattle.std.proofs.Common.{◌≡◌, ◌≢◌, ℕ, ◌+◌, ◌-◌, ◌<◌, ◌==◌, eqb, true, false, List, length, get_or, set, Some, sym, ap, subst, ◌∙◌, ◌⊎◌, inl, inr, arith, count_by, slice_get}
+use Rattle.std.proofs.lemmas.Bool.{cases_Bool, eqb-true, eq-eqb, true≢false}
+use Rattle.std.proofs.lemmas.Option.{slice_get-get_or, slice_get_within, get_or_from_slice_get}
+use Rattle.std.proofs.lemmas.List.{length-set, get_or-set_same, get_or-set_other}
 use Rattle.adb_model.specs.State.{Pin, State}
-use Rattle.adb_model.specs.Call.{Call, Reply, Event}
 use Rattle.adb_model.specs.Callers.{is_pin}
+use Rattle.adb_model.specs.Call.{Event}
 use Rattle.adb_model.specs.History.{state_after}
 use Rattle.pass_pins.specs.Pins.{Pins}
-use Rattle.book_parts.specs.Parts.{Parts}
 use Rattle.book_parts.specs.Pins.{HoldsPins}
-use Rattle.book_parts.specs.Stands.{Stands, AfterWithPins, with_event}
-use Rattle.replay.specs.Standing.{IsLane, Lanes, LanesHold, PlayerStands, IsQuiet, HaveNoPins}
+use Rattle.replay.specs.Standing.{IsLane, Lanes, LanesHold, PlayerStands}
 
-holds_as : (p : Pins) (m n : State) → m.pins ≡ n.pins → HoldsPins p m → HoldsPins p n
+holds_as : (p : Pins) (m n : State) → n.pins ≡ m.pins → HoldsPins p m → HoldsPins p n
 holds_as p m n e h = record {
   pass = h.pass;
-  each = λ id. h.each id ∙ ap (λ (ps : List Pin). count_by (is_pin p.pass id) ps) e;
-  count = h.count ∙ ap (λ (ps : List Pin). count_by (λ q. q.pass == p.pass) ps) e;
+  each = λ id. h.each id ∙ sym (ap (λ (ps : List Pin). count_by (is_pin p.pass id) ps) e);
+  count = h.count ∙ sym (ap (λ (ps : List Pin). count_by (λ q. q.pass == p.pass) ps) e);
 }
 
-lanes_as : (pins : List Pins) (m n : State) → m.pins ≡ n.pins → LanesHold pins m → LanesHold pins n
+-- all pins stay
+pub lanes_as : (pins : List Pins) (m n : State) → n.pins ≡ m.pins → LanesHold pins m → LanesHold pins n
 lanes_as pins m n e h = record {
   count = h.count;
   each = λ i p at. let old = h.each i p at in (old.0, holds_as p m n e old.1);
-}
-
--- a book that stands for another history, with the same pins in hand
-pub stands_on : (old new : Parts) (pins : List Pins) (start : State) (h g : List Event) → PlayerStands (record { book = old; pins = pins }) start h → Stands new start g → PlayerStands (record { book = new; pins = pins }) start g
-stands_on old new pins start h g p s = record {
-  book = s;
-  pins = lanes_as pins (state_after start h) (state_after start g) (p.book.parts.unstored.pins ∙ sym s.parts.unstored.pins) p.pins;
 }
 
 one_less : (lane : ℕ) → IsLane lane → lane - 1 + 1 ≡ lane
@@ -44,68 +37,39 @@ in_hand p start h lane q is st at =
     let own = st.pins.each (lane - 1) q got in
     (own.0 ∙ one_less lane is, own.1)
 
--- a load of a lane leaves its pins as they were
-pub after_load : (old new : Parts) (pins : List Pins) (start : State) (h : List Event) (lane : ℕ) (q r : Pins) (call : Call) (reply : Option Reply) → IsLane lane
-    → PlayerStands (record { book = old; pins = pins }) start h → q ≡ get_or pins (lane - 1) q → r ≡ q → AfterWithPins new r start h call reply
-    → PlayerStands (record { book = new; pins = set pins (lane - 1) r }) start (with_event h lane call reply)
-after_load old new pins start h lane q r call reply is st at same after =
-    let own = in_hand (record { book = old; pins = pins }) start h lane q is st at in
-    let pass : r.pass ≡ lane = ap (λ (x : Pins). x.pass) same ∙ own.0 in
-    let kept : set pins (lane - 1) r ≡ pins = ap (λ (x : Pins). set pins (lane - 1) x) (same ∙ at) ∙ set-get_or pins (lane - 1) q in
-    let stands : Stands new start (with_event h lane call reply) = subst (λ (n : ℕ). Stands new start (with_event h n call reply)) pass after.stands in
-    subst (λ (ps : List Pins). PlayerStands (record { book = new; pins = ps }) start (with_event h lane call reply)) (sym kept)
-    (stands_on old new pins start h (with_event h lane call reply) st stands)
+-- the pins of the other lanes stay
+module _ (pins : List Pins) (m n : State) (lane : ℕ) (after : Pins) (is : IsLane lane) (h : LanesHold pins m) (same : after.pass ≡ lane) (held : HoldsPins after n) where
+  pub lanes_with : ((pass : ℕ) → lane ≢ pass → (id : ℕ) → count_by (is_pin pass id) n.pins ≡ count_by (is_pin pass id) m.pins)
+      → ((pass : ℕ) → lane ≢ pass → count_by (λ q. q.pass == pass) n.pins ≡ count_by (λ q. q.pass == pass) m.pins)
+      → LanesHold (set pins (lane - 1) after) n
+  lanes_with others others_of = record {
+    count = length-set pins (lane - 1) after ∙ h.count;
+    each = each;
+  }
+    where
+      each : (i : ℕ) (p : Pins) → slice_get (set pins (lane - 1) after) i ≡ Some p → (p.pass ≡ i + 1) × HoldsPins p n
+      each i p at = by (cases_Bool (eqb (lane - 1) i))
+        where
+          within : i < length pins
+          within = omega (arith, slice_get_within (set pins (lane - 1) after) i p at, length-set pins (lane - 1) after)
 
--- ---- no pins
+          got : get_or (set pins (lane - 1) after) i p ≡ p
+          got = get_or_from_slice_get (set pins (lane - 1) after) i p p at
 
-pushed : {X : Type 0} (xs : List X) (x : X) (i : ℕ) (p : X) → slice_get (xs ++ x ∷ []) i ≡ Some p → (slice_get xs i ≡ Some p) ⊎ ((i ≡ length xs) × (p ≡ x))
-pushed [] x zero p e = inr (refl, sym (same_Some x p e))
-pushed [] x (suc i) p e = absurd cc
-pushed (y ∷ ys) x zero p e = inl e
-pushed (y ∷ ys) x (suc i) p e = elim (pushed ys x i p e) [ inl a ↦ inl a | inr b ↦ inr (ap suc b.0, b.1) ]
-
--- the first so many lanes have no pins in hand
-pub record FirstHaveNone (lanes : ℕ) (pins : List Pins) : Type 0 where
-  pub count : length pins ≡ lanes
-  pub each : (i : ℕ) (p : Pins) → slice_get pins i ≡ Some p → p ≡ record { pass = i + 1; pins = [] }
-
-pub none_pushed : (n : ℕ) (pins : List Pins) (x : Pins) → FirstHaveNone n pins → x ≡ record { pass = n + 1; pins = [] } → FirstHaveNone (n + 1) (pins ++ x ∷ [])
-none_pushed n pins x h is = record {
-  count = length_pushed pins x ∙ ap (λ k. k + 1) h.count;
-  each = λ i p at. elim (pushed pins x i p at) [
-    | inl old ↦ h.each i p old
-    | inr new ↦ new.1 ∙ is ∙ ap (λ (k : ℕ). record { pass = k + 1; pins = [] }) (sym (new.0 ∙ h.count))
-  ];
-}
-  where
-    length_pushed : {X : Type 0} (xs : List X) (x : X) → length (xs ++ x ∷ []) ≡ length xs + 1
-    length_pushed [] x = refl
-    length_pushed (y ∷ ys) x = ap suc (length_pushed ys x) ∙ omega arith
-
-no_pins : (m : State) (i : ℕ) (p : Pins) → m.pins ≡ [] → i < 64 → p ≡ record { pass = i + 1; pins = [] } → (p.pass ≡ i + 1) × HoldsPins p m
-no_pins m i p quiet lt is =
-    let P : Pins → Type 0 = λ q. (q.pass ≡ i + 1) × HoldsPins q m in
-    subst P (sym is) (
-      refl,
-      record {
-        pass = (omega arith, omega arith);
-        each = λ id. sym (ap (λ (ps : List Pin). count_by (is_pin (i + 1) id) ps) quiet);
-        count = sym (ap (λ (ps : List Pin). count_by (λ q. q.pass == i + 1) ps) quiet);
-      },
-    )
-
--- a book in whose state nobody has pinned anything
-pub unpinned_stands : (b : Parts) (pins : List Pins) (start : State) (h : List Event) → HaveNoPins pins → Stands b start h → IsQuiet (state_after start h) → PlayerStands (record { book = b; pins = pins }) start h
-unpinned_stands b pins start h none st quiet = record {
-  book = st;
-  pins = record {
-    count = none.count;
-    each = λ i p at. no_pins (state_after start h) i p quiet.pins (omega (arith, slice_get_within pins i p at, none.count)) (none.each i p at);
-  };
-}
-
-pub none_first : (pins : List Pins) → pins ≡ [] → FirstHaveNone 0 pins
-none_first pins is = subst (λ (ps : List Pins). FirstHaveNone 0 ps) (sym is) (record { count = refl; each = λ i p at. absurd cc })
-
-pub all_have_none : (n : ℕ) (pins : List Pins) → n ≡ 64 → FirstHaveNone n pins → HaveNoPins pins
-all_have_none n pins is h = record { count = h.count ∙ is; each = h.each }
+          by : (eqb (lane - 1) i ≡ true) ⊎ (eqb (lane - 1) i ≡ false) → (p.pass ≡ i + 1) × HoldsPins p n
+          by (inl e) =
+              let here : lane - 1 ≡ i = eqb-true (lane - 1) i e in
+              let is_after : after ≡ p = sym (get_or-set_same pins i after p within) ∙ subst (λ (k : ℕ). get_or (set pins k after) i p ≡ p) here got in
+              (sym (ap (λ (q : Pins). q.pass) is_after) ∙ same ∙ sym (one_less lane is) ∙ ap (λ (k : ℕ). k + 1) here, subst (λ (q : Pins). HoldsPins q n) is_after held)
+          by (inr e) =
+              let apart : i ≢ lane - 1 = λ there. true≢false (sym (eq-eqb (lane - 1) i (sym there)) ∙ e) in
+              let was : get_or pins i p ≡ p = sym (get_or-set_other pins (lane - 1) i after p apart) ∙ got in
+              let old = h.each i p (slice_get-get_or pins i p within ∙ ap (λ (x : Pins). Some x) was) in
+              let other : lane ≢ p.pass = λ there. apart (omega (arith, there, old.0, one_less lane is)) in (
+                old.0,
+                record {
+                  pass = old.1.pass;
+                  each = λ id. old.1.each id ∙ sym (others p.pass other id);
+                  count = old.1.count ∙ sym (others_of p.pass other);
+                },
+              )

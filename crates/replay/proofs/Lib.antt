@@ -1,7 +1,11 @@
 pub mod Lanes
+pub mod Jobs
+pub mod NoPins
+pub mod GoingOn
+pub mod Found
+pub mod Asked
 pub mod Streams
 pub mod Histories
-pub mod Turns
 pub mod LineCalls
-pub mod Steps
+pub mod Turns
 pub mod Scripts

@@ -1,8 +1,8 @@
--- What a player stands for: a history of its book, and the pins of its lanes.
-use Rattle.std.specs.Prelude.{◌≡◌, ℕ, ◌+◌, ◌≤◌, List, [], ◌++◌, length, map, Option, Some, None, Result, Ok, Err, IsFalse, All, slice_get}
+-- What a player stands for: a history of its book, the pins of its lanes, and the flushes that it has begun.
+use Rattle.std.specs.Prelude.{◌≡◌, ℕ, ◌+◌, ◌≤◌, ◌==◌, Bool, List, [], ◌++◌, length, map, find, count_by, Option, Some, None, option_map, Result, Ok, Err, IsFalse, All, slice_get}
 use Rattle.std.specs.declared.alloc.AllocError.{AllocError}
 use Rattle.adb_model.specs.State.{State}
-use Rattle.adb_model.specs.Storages.{is_filling}
+use Rattle.adb_model.specs.Storages.{is_filling, open_flush}
 use Rattle.adb_model.specs.Call as machine
 use Rattle.adb_model.specs.History.{state_after}
 use Rattle.adb_model.specs.Seen.{call_of, reply_of}
@@ -12,25 +12,37 @@ use Rattle.pass_pins.specs.Pins.{Pins}
 use Rattle.book_parts.specs.Parts.{Parts}
 use Rattle.book_parts.specs.Pins.{HoldsPins}
 use Rattle.book_parts.specs.Stands.{Stands}
+use Rattle.flush_plan.specs.Jobs.{Job, storage_of}
 
 -- the number of a lane
 abbrev pub IsLane : ℕ → Type 0
 IsLane lane = (1 ≤ lane) × (lane ≤ 64)
 
--- what contracts see of a player: its book, and the pins of lane 1, of lane 2, and so on
+-- what contracts see of a player: its book, the pins of lane 1, of lane 2, and so on, and the flushes in hand
 pub record Lanes : Type 0 where
   pub book : Parts
   pub pins : List Pins
+  pub jobs : List Job
 
 -- there are 64 lanes, and each has in hand what its pass has pinned
 pub record LanesHold (pins : List Pins) (m : State) : Type 0 where
   pub count : length pins ≡ 64
   pub each : (i : ℕ) (p : Pins) → slice_get pins i ≡ Some p → (p.pass ≡ i + 1) × HoldsPins p m
 
+-- the flush is of the slot
+abbrev pub is_of : ℕ → Job → Bool
+is_of slot job = job.slot == slot
+
+-- of each slot the flush in hand is the one that is open, and no two in hand are of one slot
+pub record JobsStand (jobs : List Job) (m : State) : Type 0 where
+  pub each : (slot : ℕ) → open_flush m slot ≡ option_map storage_of (find (is_of slot) jobs)
+  pub differ : (slot : ℕ) → count_by (is_of slot) jobs ≤ 1
+
 -- the player stands for this history from this start
 pub record PlayerStands (p : Lanes) (start : State) (history : List machine.Event) : Type 0 where
   pub book : Stands p.book start history
   pub pins : LanesHold p.pins (state_after start history)
+  pub jobs : JobsStand p.jobs (state_after start history)
 
 -- the player stands for some history
 pub record HasHistory (p : Lanes) : Type 0 where

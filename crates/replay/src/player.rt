@@ -1,15 +1,18 @@
-ghost use Rattle.std.specs.Prelude.{ℕ, List, All, IfOk, OnErr, map};
+ghost use Rattle.std.specs.Prelude.{◌≤◌, ℕ, List, All, IfOk, OnErr, map};
 ghost use Rattle.adb_model.specs.State.{State};
 ghost use Rattle.adb_model.specs.Call as machine;
 ghost use Rattle.adb_model.specs.History.{state_after};
 ghost use Rattle.adb_model.specs.Seen.{call_of};
 ghost use Rattle.book_parts.specs.Stands.{Stands, with_event};
-ghost use Rattle.book.specs.Replies.{load_reply};
 ghost use Rattle.replay.specs.Standing.{IsLane, IsQuiet, PlayerStands, HasHistory, HaveNoPins, HasMade, HasMadeFirst, asked, told};
 
-use crate::replies::{loaded, purged, rooted, stored};
-use adb_model::{Call, Key, Reply, View};
-use book::{Book, Found, LoadRefusal};
+use crate::flushes;
+use crate::laws::lanes_go_on;
+use crate::passes::{load, unpin};
+use crate::replies::{purged, rooted, stored};
+use adb_model::{Call, Reply};
+use book::Book;
+use flush_plan::FlushJob;
 use pass_pins::PassPins;
 use std::alloc::{AllocError, Global};
 use std::marker::Model;
@@ -23,6 +26,8 @@ pub struct Player {
     book: Book,
     // What each lane has pinned, lane 1 first.
     pins: Vec<PassPins>,
+    // The flushes that have begun and are open.
+    jobs: Vec<FlushJob>,
 }
 
 impl Model for Player {
@@ -30,26 +35,42 @@ impl Model for Player {
 
     ghost Value = { Lanes };
 
-    ghost view = { λ p. record { book = p.book; pins = p.pins.items } };
+    ghost view = { λ p. record { book = p.book; pins = p.pins.items; jobs = p.jobs.items } };
 
-    ghost invariant = { λ p. HasHistory (record { book = p.book; pins = p.pins.items }) };
+    ghost invariant = { λ p. HasHistory (record { book = p.book; pins = p.pins.items; jobs = p.jobs.items }) };
 }
 
-// What a view sees of a key, for the pass of a lane.
-fn load(
+// Makes one event. So many workers fill the storage of a flush that ends.
+fn step_filled<R: AllocGlobal>(
+    rt: &R,
     book: &mut Book,
     pins: &mut Vec<PassPins>,
+    jobs: &mut Vec<FlushJob>,
     lane: u64,
-    view: &View,
-    key: &Key,
-) -> Result<Option<Found>, LoadRefusal>
+    call: &Call,
+    workers: usize,
+) -> Result<Reply, AllocError>
     requires lane { IsLane lane }
-    requires some { HasHistory (record { book = book.old; pins = pins.old.items }) }
-    ensures { (start : State) (history : List machine.Event) → PlayerStands (record { book = book.old; pins = pins.old.items }) start history
-        → PlayerStands (record { book = book.new; pins = pins.new.items }) start (with_event history lane (machine.Load view.now key.now.0) (load_reply result)) }
+    requires some_worker { 1 ≤ workers }
+    requires few_workers { workers ≤ 16 }
+    requires some { HasHistory (record { book = book.old; pins = pins.old.items; jobs = jobs.old.items }) }
+    ensures { (start : State) (h : List machine.Event) → PlayerStands (record { book = book.old; pins = pins.old.items; jobs = jobs.old.items }) start h
+        → PlayerStands (record { book = book.new; pins = pins.new.items; jobs = jobs.new.items }) start (with_event h lane (call_of call.now) (told result)) }
 {
-    let pins = &mut pins[lane as usize - 1];
-    book.load(pins, view, key)
+    lanes_go_on();
+    match call {
+        Call::Store { slot, key, account } => { stored(book.store(*slot, *key, account.clone()?)) }
+        Call::Root { slot } => rooted(book.root(*slot)),
+        Call::Purge { slot } => purged(book.purge(*slot)),
+        Call::Load { view, key } => load(rt.alloc(), book, pins, lane, view, key),
+        Call::Unpin { id } => unpin(book, pins, lane, *id),
+        Call::FlushBegin { slot } => flushes::begin(book, jobs, *slot),
+        Call::FlushEnd { slot } => flushes::end(rt, book, jobs, *slot, workers),
+        Call::FlushAbort { slot } => flushes::abort(book, jobs, *slot),
+        Call::Stats => Ok(Reply::Counted {
+            stats: book.stats(),
+        }),
+    }
 }
 
 impl Player {
@@ -59,8 +80,9 @@ impl Player {
         ensures { (start : State) (history : List machine.Event) → Stands book start history → IsQuiet (state_after start history)
             → IfOk result (λ player. PlayerStands player start history) }
     {
-        let pins = unpinned(alloc)?;
-        Ok(Player { book, pins })
+        let pins = no_pins(alloc)?;
+        let jobs = Vec::new(alloc);
+        Ok(Player { book, pins, jobs })
     }
 
     /// Makes one event, and gives its reply. After want of memory nothing has changed.
@@ -74,19 +96,33 @@ impl Player {
         ensures { (start : State) (history : List machine.Event) → PlayerStands self.old start history
             → PlayerStands self.new start (with_event history lane (call_of call.now) (told result)) }
     {
-        match call {
-            Call::Store { slot, key, account } => {
-                stored(self.book.store(*slot, *key, account.clone()?))
-            }
-            Call::Root { slot } => rooted(self.book.root(*slot)),
-            Call::Purge { slot } => purged(self.book.purge(*slot)),
-            Call::Load { view, key } => {
-                loaded(load(&mut self.book, &mut self.pins, lane, view, key))
-            }
-            Call::Stats => Ok(Reply::Counted {
-                stats: self.book.stats(),
-            }),
-        }
+        self.step_by(rt, lane, call, 1)
+    }
+
+    /// Makes one event, and gives its reply. So many workers fill the storage of a flush that ends. After want of
+    /// memory nothing has changed.
+    pub(crate) fn step_by<R: AllocGlobal>(
+        &mut self,
+        rt: &R,
+        lane: u64,
+        call: &Call,
+        workers: usize,
+    ) -> Result<Reply, AllocError>
+        requires lane { IsLane lane }
+        requires some_worker { 1 ≤ workers }
+        requires few_workers { workers ≤ 16 }
+        ensures { (start : State) (history : List machine.Event) → PlayerStands self.old start history
+            → PlayerStands self.new start (with_event history lane (call_of call.now) (told result)) }
+    {
+        step_filled(
+            rt,
+            &mut self.book,
+            &mut self.pins,
+            &mut self.jobs,
+            lane,
+            call,
+            workers,
+        )
     }
 
     /// Makes the events of calls, each of a lane, in order, and gives their replies. After want of memory some of
@@ -112,7 +148,7 @@ impl Player {
 }
 
 // The pins of lanes that have pinned nothing.
-fn unpinned(alloc: Global) -> Result<Vec<PassPins>, AllocError>
+fn no_pins(alloc: Global) -> Result<Vec<PassPins>, AllocError>
     ensures { IfOk result (λ pins. HaveNoPins pins.items) }
 {
     let mut pins = Vec::with_capacity(alloc, MAX_LANES as usize)?;

@@ -1,24 +1,23 @@
-ghost use Rattle.std.specs.Prelude.{◌≡◌, ◌≤◌, ◌⊎◌, ℕ, List, [], ◌∷◌, ◌++◌, All, map, OnOk, OnErr, IfOk, IsErrOf, Option};
+ghost use Rattle.std.specs.Prelude.{◌≡◌, ◌≤◌, ◌⊎◌, ℕ, List, [], All, map, OnOk, OnErr, IfOk, IsErrOf, Option, Some, None, option_map};
+ghost use Rattle.adb_model.specs.State.{State, fresh};
 ghost use Rattle.adb_model.specs.Call as machine;
-ghost use Rattle.adb_model.specs.Plays as plays;
-ghost use Rattle.adb_model.specs.Seen.{call_of};
+ghost use Rattle.adb_model.specs.Plays.{next_call};
+ghost use Rattle.adb_model.specs.Seen.{call_of, reply_of};
 ghost use Rattle.script.specs.Grammar.{IsScript};
-ghost use Rattle.script.specs.Seen.{line_seen, lines_seen};
+ghost use Rattle.script.specs.Said.{line_played, order_played};
+ghost use Rattle.script.specs.Seen.{line_seen, order_seen, script_seen};
 ghost use Rattle.stream_io.specs.Stream.{Rose};
 ghost use Rattle.replay.specs.Standing.{IsLane, PlayerStands};
-ghost use Rattle.replay.specs.Journaled.{start, PlayedAll, PlayedInPart, CutShort};
-ghost use Rattle.replay.specs.Playing.{HasPlayed, PlayedCall, CutCall};
+ghost use Rattle.replay.specs.Journaled.{PlayedAll, CutShort};
+ghost use Rattle.replay.specs.Playing.{HasWorkers, IsPlayable, HasPlayed, PlayedCall, CutCall, PlayedLine, CutLine};
 ghost use Rattle.replay.specs.declared.playing.Stop.TheVariants as stops;
 
 use crate::player::Player;
-use adb_model::{Call, histories_go_on};
+use adb_model::{Call, Place, Reply, histories_go_on};
 use book::Book;
 use script::{JournalPrinter, Line, Order, Script};
 use std::alloc::{AllocError, Global};
 use stream_io::{Failed, Sink, write_whole};
-
-/// The most bytes that the storages of a store have together, where a script doesn't say another number.
-pub const DEFAULT_BUDGET: u64 = 4_294_967_296;
 
 /// Why a journal was not written to its end.
 #[derive(Clone, Copy, Debug, PartialEq, Eq)]
@@ -43,30 +42,96 @@ impl From<Failed> for Stop {
     }
 }
 
-// Makes one event and hands its line to the sink.
+// Makes one event, hands its line to the sink, and gives its reply. So many workers fill the storage of a flush
+// that ends.
 fn play_call<R: AllocGlobal, K: Sink>(
     rt: &R,
     player: &mut Player,
     lane: u64,
     call: &Call,
+    workers: usize,
     printer: &mut JournalPrinter,
     sink: &mut K,
-) -> Result<(), Stop>
-    requires { IsLane lane }
-    ensures ok { (history : List machine.Event) → PlayerStands player.old start history
-        → OnOk result (PlayedCall player.new history (K.taken sink.old) (K.taken sink.new) lane (call_of call.now)) }
-    ensures err { (history : List machine.Event) → PlayerStands player.old start history
-        → OnErr result (CutCall history (K.taken sink.old) (K.taken sink.new) lane (call_of call.now)) }
+) -> Result<Reply, Stop>
+    requires lane { IsLane lane }
+    requires some_worker { 1 ≤ workers }
+    requires few_workers { workers ≤ 16 }
+    ensures ok { (start : State) (history : List machine.Event) → PlayerStands player.old start history
+        → IfOk result (λ reply. PlayedCall player.new start history (K.taken sink.old) (K.taken sink.new) lane (call_of call.now) (reply_of reply)) }
+    ensures err { (start : State) (history : List machine.Event) → PlayerStands player.old start history
+        → OnErr result (CutCall start history (K.taken sink.old) (K.taken sink.new) lane (call_of call.now)) }
     ensures later { K.faults sink.old ≤ K.faults sink.new }
     ensures kept { OnOk result (K.faults sink.new ≡ K.faults sink.old) }
     ensures cause { IsErrOf result Stop.SinkFault → Rose (K.faults sink.old) (K.faults sink.new) }
 {
     // Whatever stops it, the history with this call's event is legal.
     histories_go_on();
-    let reply = player.step(rt, lane, call)?;
+    let reply = player.step_by(rt, lane, call, workers)?;
     let line = printer.print(rt.alloc(), lane, call, &reply)?;
     write_whole(sink, line)?;
-    Ok(())
+    Ok(reply)
+}
+
+// How many workers fill the storage of an order's flush.
+fn workers_of(order: &Order) -> usize
+    requires { HasWorkers (order_seen order.now) }
+    ensures least { 1 ≤ result }
+    ensures most { result ≤ 16 }
+{
+    match order {
+        Order::Flush { workers, .. } => *workers,
+        _ => 1,
+    }
+}
+
+// The call that an order asks for after the reply to its first one.
+fn call_after(order: &Order, reply: &Reply) -> Option<Call>
+    ensures { option_map call_of result ≡ next_call (order_played (order_seen order.now)) (Some (reply_of reply.now)) }
+{
+    match (order, reply) {
+        (
+            Order::Get { .. },
+            Reply::Found {
+                place: Place::InStorage { id },
+                ..
+            },
+        ) => Some(Call::Unpin { id: *id }),
+        (Order::Flush { slot, .. }, Reply::FlushBegun { .. }) => Some(Call::FlushEnd {
+            slot: *slot,
+        }),
+        _ => None,
+    }
+}
+
+// Makes the events of one line, whose first call this is.
+fn play_from<R: AllocGlobal, K: Sink>(
+    rt: &R,
+    player: &mut Player,
+    line: &Line,
+    first: &Call,
+    printer: &mut JournalPrinter,
+    sink: &mut K,
+) -> Result<(), Stop>
+    requires line { IsPlayable (line_seen line.now) }
+    requires first { next_call (order_played (order_seen line.now.order)) None ≡ Some (call_of first.now) }
+    ensures ok { (start : State) (history : List machine.Event) → PlayerStands player.old start history
+        → OnOk result (PlayedLine player.new start history (K.taken sink.old) (K.taken sink.new) (line_played (line_seen line.now))) }
+    ensures err { (start : State) (history : List machine.Event) → PlayerStands player.old start history
+        → OnErr result (CutLine start history (K.taken sink.old) (K.taken sink.new) (line_played (line_seen line.now))) }
+    ensures later { K.faults sink.old ≤ K.faults sink.new }
+    ensures kept { OnOk result (K.faults sink.new ≡ K.faults sink.old) }
+    ensures cause { IsErrOf result Stop.SinkFault → Rose (K.faults sink.old) (K.faults sink.new) }
+{
+    histories_go_on();
+    let workers = workers_of(&line.order);
+    let reply = play_call(rt, player, line.lane, first, workers, printer, sink)?;
+    match call_after(&line.order, &reply) {
+        None => Ok(()),
+        Some(call) => {
+            play_call(rt, player, line.lane, &call, workers, printer, sink)?;
+            Ok(())
+        }
+    }
 }
 
 // Makes the events of one line.
@@ -77,65 +142,93 @@ fn play_line<R: AllocGlobal, K: Sink>(
     printer: &mut JournalPrinter,
     sink: &mut K,
 ) -> Result<(), Stop>
-    requires { IsLane line.now.lane }
-    ensures ok { (before : Option (List ℕ)) (lines : List plays.Line) → HasPlayed player.old before (K.taken sink.old) lines
-        → OnOk result (HasPlayed player.new before (K.taken sink.new) (lines ++ line_seen line.now ∷ [])) }
-    ensures err { (before : Option (List ℕ)) (lines : List plays.Line) → HasPlayed player.old before (K.taken sink.old) lines
-        → OnErr result (PlayedInPart before (K.taken sink.new) (lines ++ line_seen line.now ∷ [])) }
+    requires { IsPlayable (line_seen line.now) }
+    ensures ok { (start : State) (history : List machine.Event) → PlayerStands player.old start history
+        → OnOk result (PlayedLine player.new start history (K.taken sink.old) (K.taken sink.new) (line_played (line_seen line.now))) }
+    ensures err { (start : State) (history : List machine.Event) → PlayerStands player.old start history
+        → OnErr result (CutLine start history (K.taken sink.old) (K.taken sink.new) (line_played (line_seen line.now))) }
     ensures later { K.faults sink.old ≤ K.faults sink.new }
     ensures kept { OnOk result (K.faults sink.new ≡ K.faults sink.old) }
     ensures cause { IsErrOf result Stop.SinkFault → Rose (K.faults sink.old) (K.faults sink.new) }
 {
     histories_go_on();
     match &line.order {
-        Order::Event(call) => play_call(rt, player, line.lane, call, printer, sink),
+        Order::Event(call) => play_from(rt, player, line, call, printer, sink),
         Order::Get { view, key } => {
             let view = view.try_copy(rt.alloc())?;
             let call = Call::Load { view, key: *key };
-            play_call(rt, player, line.lane, &call, printer, sink)
+            play_from(rt, player, line, &call, printer, sink)
+        }
+        Order::Flush { slot, .. } => {
+            let call = Call::FlushBegin { slot: *slot };
+            play_from(rt, player, line, &call, printer, sink)
         }
     }
 }
 
-// A player of a book without accounts.
-fn fresh_player(alloc: Global) -> Result<Player, AllocError>
-    ensures { IfOk result (λ player. PlayerStands player start []) }
-{
-    let book = Book::new(alloc, DEFAULT_BUDGET, 1)?;
-    Player::new(alloc, book)
-}
-
-fn play_lines<R: AllocGlobal, K: Sink>(rt: &R, lines: &[Line], sink: &mut K) -> Result<(), Stop>
-    requires { All (λ line. IsLane line.lane) lines.now }
-    ensures ok { OnOk result (PlayedAll (K.taken sink.old) (K.taken sink.new) (map line_seen lines.now)) }
-    ensures err { OnErr result (CutShort (K.taken sink.old) (K.taken sink.new) (map line_seen lines.now)) }
+// Makes the events of all lines.
+fn play_lines<R: AllocGlobal, K: Sink>(
+    rt: &R,
+    player: &mut Player,
+    lines: &[Line],
+    printer: &mut JournalPrinter,
+    sink: &mut K,
+) -> Result<(), Stop>
+    requires { All (λ line. IsPlayable (line_seen line)) lines.now }
+    ensures ok { (before : Option (List ℕ)) (budget : Option ℕ) → HasPlayed player.old before (K.taken sink.old) (record { budget = budget; lines = [] })
+        → OnOk result (HasPlayed player.new before (K.taken sink.new) (record { budget = budget; lines = map line_seen lines.now })) }
+    ensures err { (before : Option (List ℕ)) (budget : Option ℕ) → HasPlayed player.old before (K.taken sink.old) (record { budget = budget; lines = [] })
+        → OnErr result (CutShort before (K.taken sink.new) (record { budget = budget; lines = map line_seen lines.now })) }
     ensures later { K.faults sink.old ≤ K.faults sink.new }
     ensures kept { OnOk result (K.faults sink.new ≡ K.faults sink.old) }
     ensures cause { IsErrOf result Stop.SinkFault → Rose (K.faults sink.old) (K.faults sink.new) }
 {
-    let mut player = fresh_player(rt.alloc())?;
-    let mut printer = JournalPrinter::new(rt.alloc());
     for line in lines {
-        play_line(rt, &mut player, line, &mut printer, sink)?;
+        play_line(rt, player, line, printer, sink)?;
     }
     Ok(())
 }
 
-/// Makes the events of a script's lines in order, from the fresh state, and hands each journal line to the sink
-/// when its event is done. It doesn't flush the sink.
+// A player of a book without accounts, whose storages may have so many bytes together.
+fn fresh_player(alloc: Global, budget: u64) -> Result<Player, AllocError>
+    ensures { IfOk result (λ player. PlayerStands player (fresh budget 1) []) }
+{
+    let book = Book::new(alloc, budget, 1)?;
+    Player::new(alloc, book)
+}
+
+// The header's line, and the events of all lines.
+fn play_script<R: AllocGlobal, K: Sink>(rt: &R, script: &Script, sink: &mut K) -> Result<(), Stop>
+    requires { All (λ line. IsPlayable (line_seen line)) script.now.lines.items }
+    ensures ok { OnOk result (PlayedAll (K.taken sink.old) (K.taken sink.new) (script_seen script.now)) }
+    ensures err { OnErr result (CutShort (K.taken sink.old) (K.taken sink.new) (script_seen script.now)) }
+    ensures later { K.faults sink.old ≤ K.faults sink.new }
+    ensures kept { OnOk result (K.faults sink.new ≡ K.faults sink.old) }
+    ensures cause { IsErrOf result Stop.SinkFault → Rose (K.faults sink.old) (K.faults sink.new) }
+{
+    let mut player = fresh_player(rt.alloc(), script.byte_budget())?;
+    let mut printer = JournalPrinter::new(rt.alloc());
+    let header = printer.print_header(script.budget)?;
+    write_whole(sink, header)?;
+    play_lines(rt, &mut player, &script.lines, &mut printer, sink)
+}
+
+/// Makes the events of a script's lines in order, from the fresh state with the script's budget. It hands the
+/// header's journal line, if there is a header, to the sink before the first event, and each other line when its
+/// event is done. It doesn't flush the sink.
 ///
 /// The status is 0 where all lines were played, 4 where the sink failed, and 6 for want of memory; after 4 and 6
 /// the sink took some of the front of the journal.
 pub fn run_replay<R: AllocGlobal, K: Sink>(rt: &R, script: &Script, sink: &mut K) -> u8
-    requires { (bytes : List ℕ) × IsScript bytes (lines_seen script.now) }
+    requires { (bytes : List ℕ) × IsScript bytes (script_seen script.now) }
     ensures which { (result ≡ 0) ⊎ ((result ≡ 4) ⊎ (result ≡ 6)) }
-    ensures done { result ≡ 0 → PlayedAll (K.taken sink.old) (K.taken sink.new) (lines_seen script.now) }
-    ensures cut { (result ≡ 4) ⊎ (result ≡ 6) → CutShort (K.taken sink.old) (K.taken sink.new) (lines_seen script.now) }
+    ensures done { result ≡ 0 → PlayedAll (K.taken sink.old) (K.taken sink.new) (script_seen script.now) }
+    ensures cut { (result ≡ 4) ⊎ (result ≡ 6) → CutShort (K.taken sink.old) (K.taken sink.new) (script_seen script.now) }
     ensures later { K.faults sink.old ≤ K.faults sink.new }
     ensures kept { result ≡ 0 → K.faults sink.new ≡ K.faults sink.old }
     ensures sink_fault { result ≡ 4 → Rose (K.faults sink.old) (K.faults sink.new) }
 {
-    match play_lines(rt, &script.lines, sink) {
+    match play_script(rt, script, sink) {
         Ok(()) => 0,
         Err(Stop::SinkFault) => 4,
         Err(Stop::NoMemory) => 6,

@@ -1,13 +1,14 @@
-ghost use Rattle.std.specs.Prelude.{◌≡◌, Some};
+ghost use Rattle.std.specs.Prelude.{◌≡◌, Some, Err};
 ghost use Rattle.adb_model.specs.Seen.{reply_of};
-ghost use Rattle.book.specs.Replies.{store_reply, root_reply, purge_reply, load_reply};
+ghost use Rattle.book.specs.Replies.{store_reply, root_reply, purge_reply, load_reply, unpin_reply, flush_reply};
 ghost use Rattle.replay.specs.Standing.{told};
 
-use adb_model::{Place, Refusal, Reply};
-use book::{Found, FoundAt, LoadRefusal, RootRefusal, Rooted, StoreRefusal};
+use adb_model::{Refusal, Reply};
+use book::{FlushRefusal, LoadRefusal, NotPinned, RootRefusal, Rooted, StoreRefusal};
 use std::alloc::AllocError;
 
-fn refused(refusal: Refusal) -> Result<Reply, AllocError>
+/// The reply to a call that changes nothing.
+pub fn refused(refusal: Refusal) -> Result<Reply, AllocError>
     ensures { told result ≡ Some (reply_of (Reply.Refused refusal)) }
 {
     Ok(Reply::Refused { refusal })
@@ -49,28 +50,48 @@ pub fn purged(answer: Result<u64, Rooted>) -> Result<Reply, AllocError>
     }
 }
 
-/// The reply to a load.
-pub fn loaded(answer: Result<Option<Found>, LoadRefusal>) -> Result<Reply, AllocError>
-    ensures { told result ≡ load_reply answer }
+/// The reply to a load that was refused.
+pub fn load_refused(refusal: LoadRefusal) -> Result<Reply, AllocError>
+    ensures { told result ≡ load_reply (Err refusal) }
 {
-    match answer {
-        Ok(None) => Ok(Reply::NotFound),
-        Ok(
-            Some(
-                Found {
-                    slot,
-                    at: FoundAt::Cached(account),
-                },
-            ),
-        ) => Ok(Reply::Found {
-            slot,
-            place: Place::Cached,
-            account,
-        }),
-        Err(LoadRefusal::ViewTooOld { max_root, cleaned }) => {
+    match refusal {
+        LoadRefusal::ViewTooOld { max_root, cleaned } => {
             refused(Refusal::ViewTooOld { max_root, cleaned })
         }
-        Err(LoadRefusal::TooManyPins { most }) => refused(Refusal::TooManyPins { most }),
-        Err(LoadRefusal::NoMemory) => Err(AllocError),
+        LoadRefusal::TooManyPins { most } => refused(Refusal::TooManyPins { most }),
+        LoadRefusal::NoMemory => Err(AllocError),
+    }
+}
+
+/// The reply to a pass that lets go of a storage.
+pub fn unpinned(answer: Result<(), NotPinned>) -> Result<Reply, AllocError>
+    ensures { told result ≡ Some (unpin_reply answer) }
+{
+    match answer {
+        Ok(()) => Ok(Reply::Done),
+        Err(NotPinned { id }) => refused(Refusal::NotPinned { id }),
+    }
+}
+
+/// The reply to a flush that did not begin.
+pub fn flush_refused(refusal: FlushRefusal) -> Result<Reply, AllocError>
+    ensures { told result ≡ flush_reply (Err refusal) }
+{
+    match refusal {
+        FlushRefusal::NotRooted { slot } => refused(Refusal::NotRooted { slot }),
+        FlushRefusal::NothingCached { slot } => refused(Refusal::NothingCached { slot }),
+        FlushRefusal::Flushing { slot, id } => refused(Refusal::Flushing { slot, id }),
+        FlushRefusal::Full {
+            used,
+            wanted,
+            limit,
+        } => refused(Refusal::Full {
+            used,
+            wanted,
+            limit,
+        }),
+        FlushRefusal::NoCell { limit } => refused(Refusal::NoCell { limit }),
+        FlushRefusal::IdsSpent => refused(Refusal::IdsSpent),
+        FlushRefusal::NoMemory => Err(AllocError),
     }
 }

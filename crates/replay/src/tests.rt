@@ -1,11 +1,13 @@
 ghost use Rattle.std.specs.Prelude.{◌<◌};
 
-use crate::Player;
+use crate::{Player, run_replay};
 use adb_model::{Account, Call, Key, Refusal, Reply, Slot, View, plain_answer};
 use book::Book;
+use script::parse;
 use std::alloc::Global;
 use std::sync::Arc;
 use std::test::Fail;
+use stream_io::MemSink;
 
 const SLOTS: u64 = 16;
 
@@ -51,6 +53,10 @@ fn any_call(alloc: Global, numbers: &mut Numbers) -> Result<Call, Fail> {
         30 => Ok(Call::Root { slot: slot / 2 }),
         31..=37 => Ok(Call::Purge { slot }),
         38..=40 => Ok(Call::Stats),
+        41 | 42 => Ok(Call::FlushBegin { slot: slot / 2 }),
+        43 => Ok(Call::FlushEnd { slot: slot / 2 }),
+        44 => Ok(Call::FlushAbort { slot: slot / 2 }),
+        45 => Ok(Call::Unpin { id: 1 + slot / 4 }),
         _ => {
             let ancestors = [numbers.below(SLOTS), slot];
             Ok(Call::Load {
@@ -69,7 +75,8 @@ enum Told {
     Purged(u64),
     NotFound,
     Found(Slot, u64),
-    Cached(u64),
+    Present(u64),
+    Other,
 }
 
 fn told_by(reply: &Reply) -> Told {
@@ -81,11 +88,13 @@ fn told_by(reply: &Reply) -> Told {
             Refusal::Rooted { slot } => *slot,
             Refusal::ViewTooOld { cleaned, .. } => *cleaned,
             Refusal::TooManyPins { most } => *most,
+            _ => return Told::Other,
         }),
         Reply::Purged { keys } => Told::Purged(*keys),
         Reply::NotFound => Told::NotFound,
         Reply::Found { slot, account, .. } => Told::Found(*slot, account.head().lamports),
-        Reply::Counted { stats } => Told::Cached(stats.cached),
+        Reply::FlushBegun { .. } => Told::Other,
+        Reply::Counted { stats } => Told::Present(stats.cached.wrapping_add(stats.named)),
     }
 }
 
@@ -113,7 +122,7 @@ impl Lists {
         keys
     }
 
-    fn cached(&self) -> u64 {
+    fn present(&self) -> u64 {
         let mut pairs: u64 = 0;
         for slot in 0..SLOTS {
             pairs = pairs.wrapping_add(self.keys_in(slot));
@@ -164,7 +173,8 @@ impl Lists {
             Call::Root { slot } => self.root(*slot),
             Call::Purge { slot } => Ok(self.purge(*slot)),
             Call::Load { view, key } => Ok(self.load(view, key)),
-            Call::Stats => Ok(Told::Cached(self.cached())),
+            Call::Stats => Ok(Told::Present(self.present())),
+            _ => Ok(Told::Other),
         }
     }
 }
@@ -181,15 +191,18 @@ fn a_player_answers_as_plain_lists_do(rt: HostRuntime) -> Result<(), Fail> {
     for number in 0..600_u64 {
         let call = any_call(alloc, &mut numbers)?;
         let reply = player.step(&rt, 1 + numbers.below(64), &call)?;
-        assert_eq!(rt; told_by(&reply), lists.step(&call)?, "call {number}");
+        let told = lists.step(&call)?;
+        if told != Told::Other {
+            assert_eq!(rt; told_by(&reply), told, "call {number}");
+        }
     }
     Ok(())
 }
 
-fn store_of(alloc: Global, number: u64) -> Result<Call, Fail> {
+fn store_of(alloc: Global, slot: Slot, number: u64) -> Result<Call, Fail> {
     let account = any_account(alloc, &mut Numbers(number))?;
     Ok(Call::Store {
-        slot: 5,
+        slot,
         key: key(number),
         account,
     })
@@ -200,13 +213,118 @@ fn a_player_runs_calls_of_several_lanes(rt: HostRuntime) -> Result<(), Fail> {
     let alloc = rt.alloc();
     let mut player = Player::new(alloc, Book::new(alloc, 1000, 1)?)?;
     let calls = [
-        (1, store_of(alloc, 1)?),
-        (64, store_of(alloc, 2)?),
-        (2, store_of(alloc, 1)?),
+        (1, store_of(alloc, 5, 1)?),
+        (64, store_of(alloc, 5, 2)?),
+        (2, store_of(alloc, 5, 1)?),
         (1, Call::Stats),
     ];
     let replies = player.run(&rt, &calls)?;
     assert_eq!(rt; replies.len(), 4);
-    assert_eq!(rt; told_by(&replies[3]), Told::Cached(2));
+    assert_eq!(rt; told_by(&replies[3]), Told::Present(2));
+    Ok(())
+}
+
+// The status and the journal of a script.
+fn journal(rt: &HostRuntime, text: &str) -> Result<(u8, Vec<u8>), Fail> {
+    let alloc = rt.alloc();
+    let Ok(script) = parse(alloc, text.as_bytes()) else {
+        return Err("no script")?;
+    };
+    let mut sink = MemSink::new(alloc, 10_000, Vec::new(alloc))?;
+    let status = run_replay(rt, &script, &mut sink);
+    Ok((status, sink.bytes().to_vec(alloc)?))
+}
+
+#[test]
+fn scripts_with_flushes_have_these_journals(rt: HostRuntime) -> Result<(), Fail> {
+    let table = [
+        (
+            "refusals of a flush",
+            "1 store 5 01 1\n1 flush-begin 5\n1 root 4\n1 flush-begin 4\n1 root 5\n1 flush-begin 5\n1 flush-begin 5\n1 flush-end 5\n1 flush-begin 5\n1 flush-end 5\n",
+            "1 store 5 01 1 00 0 0 - = ok\n1 flush-begin 5 = not-rooted 5\n1 root 4 = ok\n1 flush-begin 4 = nothing-cached 4\n1 root 5 = ok\n1 flush-begin 5 = ok 1 136\n1 flush-begin 5 = flushing 5 1\n1 flush-end 5 = ok\n1 flush-begin 5 = nothing-cached 5\n1 flush-end 5 = not-flushing 5\n",
+        ),
+        (
+            "a flush that is given up, and another",
+            "1 store 5 01 1\n1 root 5\n1 flush-begin 5\n1 flush-abort 5\n1 flush-abort 5\n1 flush 5\n",
+            "1 store 5 01 1 00 0 0 - = ok\n1 root 5 = ok\n1 flush-begin 5 = ok 1 136\n1 flush-abort 5 = ok\n1 flush-abort 5 = not-flushing 5\n1 flush-begin 5 = ok 2 136\n1 flush-end 5 = ok\n",
+        ),
+        (
+            "two flushes that are open at once",
+            "1 store 2 01 1\n1 store 3 01 2\n1 root 2\n1 root 3\n1 flush-begin 2\n2 flush-begin 3\n3 flush-end 2\n3 load -@2 01\n1 flush-end 3\n3 load -@all 01\n3 unpin 1\n3 unpin 1\n1 stats\n",
+            "1 store 2 01 1 00 0 0 - = ok\n1 store 3 01 2 00 0 0 - = ok\n1 root 2 = ok\n1 root 3 = ok\n1 flush-begin 2 = ok 1 136\n2 flush-begin 3 = ok 2 136\n3 flush-end 2 = ok\n3 load -@2 01 = some 2 1 1 00 0 0 -\n1 flush-end 3 = ok\n3 load -@all 01 = some 3 2 2 00 0 0 -\n3 unpin 1 = ok\n3 unpin 1 = not-pinned 1\n1 stats = cached 0 filling 0 live 2 retired 0 named 2 rows 2 bytes 272 pins 1\n",
+        ),
+        (
+            "a budget that is enough",
+            "budget 136\n1 store 2 01 1\n1 root 2\n1 flush 2 16\n1 get -@all 01\n",
+            "budget 136 = ok\n1 store 2 01 1 00 0 0 - = ok\n1 root 2 = ok\n1 flush-begin 2 = ok 1 136\n1 flush-end 2 = ok\n1 load -@all 01 = some 2 1 1 00 0 0 -\n1 unpin 1 = ok\n",
+        ),
+        (
+            "a budget that is not",
+            "budget 135\n1 store 2 01 1\n1 root 2\n1 flush 2\n1 get -@all 01\n",
+            "budget 135 = ok\n1 store 2 01 1 00 0 0 - = ok\n1 root 2 = ok\n1 flush-begin 2 = full 0 136 135\n1 load -@all 01 = some 2 cached 1 00 0 0 -\n",
+        ),
+    ];
+    for (name, text, expected) in table {
+        let (status, journal) = journal(&rt, text)?;
+        assert_eq!(rt; status, 0, "{name}");
+        assert_eq!(rt; str::from_utf8(&journal), Ok(expected), "{name}");
+    }
+    Ok(())
+}
+
+#[test]
+fn a_lane_has_sixty_four_pins(rt: HostRuntime) -> Result<(), Fail> {
+    let alloc = rt.alloc();
+    let mut text = String::from_str(alloc, "1 store 2 01 1\n1 root 2\n1 flush 2\n")?;
+    let mut expected = String::from_str(
+        alloc,
+        "1 store 2 01 1 00 0 0 - = ok\n1 root 2 = ok\n1 flush-begin 2 = ok 1 136\n1 flush-end 2 = ok\n",
+    )?;
+    for _ in 0..64_u64 {
+        text.push_str("1 load -@all 01\n")?;
+        expected.push_str("1 load -@all 01 = some 2 1 1 00 0 0 -\n")?;
+    }
+    text.push_str("1 load -@all 01\n2 get -@all 01\n")?;
+    expected.push_str(
+        "1 load -@all 01 = too-many-pins 64\n2 load -@all 01 = some 2 1 1 00 0 0 -\n2 unpin 1 = ok\n",
+    )?;
+    let (status, journal) = journal(&rt, &text)?;
+    assert_eq!(rt; status, 0);
+    assert_eq!(rt; str::from_utf8(&journal), Ok(expected.as_str()));
+    Ok(())
+}
+
+#[test]
+fn the_ids_are_spent_after_the_last(rt: HostRuntime) -> Result<(), Fail> {
+    let alloc = rt.alloc();
+    let book = Book::new(alloc, 1000, 18_446_744_073_709_551_614)?;
+    let mut player = Player::new(alloc, book)?;
+    let calls = [
+        (1, store_of(alloc, 1, 1)?),
+        (1, store_of(alloc, 2, 2)?),
+        (1, Call::Root { slot: 1 }),
+        (1, Call::Root { slot: 2 }),
+        (1, Call::FlushBegin { slot: 1 }),
+        (1, Call::FlushBegin { slot: 2 }),
+    ];
+    let replies = player.run(&rt, &calls)?;
+    assert_eq!(rt; replies.len(), 6);
+    assert!(rt;
+        matches!(
+            replies[4],
+            Reply::FlushBegun {
+                id: 18_446_744_073_709_551_614,
+                bytes: 136
+            }
+        )
+    );
+    assert!(rt;
+        matches!(
+            replies[5],
+            Reply::Refused {
+                refusal: Refusal::IdsSpent
+            }
+        )
+    );
     Ok(())
 }

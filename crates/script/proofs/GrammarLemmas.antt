@@ -3,12 +3,11 @@ use Rattle.std.proofs.Common.{◌≡◌, ℕ, ◌+◌, ◌≤◌, Bool, true, fa
 use Rattle.std.specs.Prelude.{codes, filter, map, not, replicate, ◌&&◌, option_and_then}
 use Rattle.std.specs.Str.{bytes_eq}
 use Rattle.std.specs.Str.Lines.{lines}
-use Rattle.std.proofs.lemmas.Bool.{and_from, and_parts, cond-true, le-leb, leb-true}
+use Rattle.std.proofs.lemmas.Bool.{and_from, and_parts, cases_Bool, cond-true, le-leb, leb-true}
 use Rattle.std.proofs.lemmas.Slice.Eq.{bytes_eq-Decides}
 use Rattle.adb_model.specs.Account.{Account, account_of}
 use Rattle.adb_model.specs.View.{View}
-use Rattle.adb_model.specs.Call.{Store, Root, Purge, Load, Stats}
-use Rattle.adb_model.specs.Plays.{Order, Plain, Get, Line}
+use Rattle.adb_model.specs.Call.{Store, Root, Purge, Load, Unpin, FlushBegin, FlushEnd, FlushAbort, Stats}
 use Rattle.hex.proofs.OnLiterals.{hex_on_literals}
 use Rattle.text_fields.specs.Keys.{key_of}
 use Rattle.text_fields.specs.Numbers.{number_of}
@@ -16,11 +15,13 @@ use Rattle.script.specs.declared.fault.Kind.{Kind}
 use Rattle.script.specs.declared.fault.Kind.TheVariants as kinds
 use Rattle.script.specs.declared.fault.WordFault.{WordFault}
 use Rattle.script.specs.declared.fault.LineFault.{LineFault}
+use Rattle.script.specs.declared.line.Leading.TheVariants as leadings
 use Rattle.script.specs.Arguments.{view_of, flag_of, data_of}
 use Rattle.script.specs.Data.{IsData}
-use Rattle.script.specs.Grammar.{filled, store_defaults, IsStore, IsOfSlot, IsOfView, IsOrder, IsLine, AreLines, IsScript}
-use Rattle.script.specs.Reader.{◌>>=◌, good, argument, optional, fitting, ended, if_lane, lane_of, data_argument, store_of, slot_of, view_and_key_of, order_of, line_of, said_by, and_then, lines_from, script_of}
+use Rattle.script.specs.Grammar.{filled, store_defaults, flush_defaults, IsStore, IsOfNumber, IsOfView, IsWorkers, IsFlush, IsOrder, IsLine, AreLines, AreSaid, IsScript}
+use Rattle.script.specs.Reader.{◌>>=◌, good, argument, optional, fitting, ended, if_lane, lane_of, data_argument, store_of, only_number, number_order, if_workers, workers_argument, flush_of, view_and_key_of, numbered_of, order_of, is_header, first_fault, lane_argument, line_of, said_by, and_then, lines_from, with_budget, unskipped, leading_of, headed, said_from, script_of}
 use Rattle.script.specs.Laws.{ReadsTheGrammar}
+use Rattle.script.specs.Said.{Order, Plain, Get, Flush, Line, Said}
 use Rattle.script.specs.Text.{flag_text}
 use Rattle.script.specs.Views.{IsView}
 use Rattle.script.specs.Words.{words, is_skipped}
@@ -145,35 +146,94 @@ no_owner : key_of (codes "00") ≡ Some (replicate 32 0)
 unfolding key_of hex_on_literals
 no_owner = refl
 
+-- the word of a header is no number
+no_number : number_of (codes "budget") ≡ None
+unfolding number_of
+no_number = refl
+
 no_epoch : number_of (codes "0") ≡ Some 0
 unfolding number_of
 no_epoch = refl
+
+one_worker : IsWorkers (codes "1") 1
+unfolding number_of
+one_worker = record { number = refl; least = omega arith; most = omega arith }
 
 no_data : IsData (codes "-") []
 no_data = record { form = inl (refl, refl); most = omega arith }
 
 -- ---- orders
 
-slot_read : (ws : List (List ℕ)) (n : ℕ) → slot_of ws ≡ Ok n → (w : List ℕ) × (ws ≡ w ∷ []) × (number_of w ≡ Some n)
-unfolding slot_of
-slot_read ws n e =
-    let slot = step _ _ _ ws _ n e in
-    let done = at_end _ slot.2 _ n slot.5 in
-    let same : slot.1 ≡ n = cc done.1 in
-    (slot.0, slot.3 ∙ ap (λ (l : List (List ℕ)). slot.0 ∷ l) done.0, slot.4 ∙ ap (λ (m : ℕ). Some m) same)
+-- a command and a number, at any place
+number_read : (command : List ℕ) (word : ℕ) (w : List ℕ) (ws : List (List ℕ)) (n : ℕ) → w ≡ command → only_number word ws ≡ Ok n → IsOfNumber command (w ∷ ws) n
+unfolding only_number
+number_read command word w ws n is e =
+    let number = step _ _ _ ws _ n e in
+    let done = at_end _ number.2 _ n number.5 in
+    let same : number.1 ≡ n = cc done.1 in
+    record {
+      number_word = number.0;
+      words = ap₂ (λ (v : List ℕ) (r : List (List ℕ)). v ∷ r) is (number.3 ∙ ap (λ (l : List (List ℕ)). number.0 ∷ l) done.0);
+      number_is = number.4 ∙ ap (λ (m : ℕ). Some m) same;
+    }
 
-slot_again : (w : List ℕ) (n : ℕ) → number_of w ≡ Some n → slot_of (w ∷ []) ≡ Ok n
-unfolding slot_of argument ended
-slot_again w n e = rw e refl
+number_again : (word : ℕ) (w : List ℕ) (n : ℕ) → number_of w ≡ Some n → only_number word (w ∷ []) ≡ Ok n
+unfolding only_number argument ended
+number_again word w n e = rw e refl
 
--- an order of one slot
-slot_order : (command : List ℕ) (order : ℕ → Order) (w : List ℕ) (ws : List (List ℕ)) (o : Order) → ((n : ℕ) → IsOfSlot command (w ∷ ws) n → IsOrder (w ∷ ws) (order n))
-    → w ≡ command → (slot_of ws >>= λ n. Ok (order n)) ≡ Ok o → IsOrder (w ∷ ws) o
-slot_order command order w ws o holds is e =
-    let b = bind_ok (slot_of ws) (λ n. Ok (order n)) o e in
-    let s = slot_read ws b.0 b.1 in
+-- an order of one number
+number_ordered : (command : List ℕ) (order : ℕ → Order) (w : List ℕ) (ws : List (List ℕ)) (o : Order) → ((n : ℕ) → IsOfNumber command (w ∷ ws) n → IsOrder (w ∷ ws) (order n))
+    → w ≡ command → number_order order ws ≡ Ok o → IsOrder (w ∷ ws) o
+number_ordered command order w ws o holds is e =
+    let b = bind_ok (only_number 3 ws) (λ n. Ok (order n)) o e in
     let same : order b.0 ≡ o = cc b.2 in
-    subst (λ (x : Order). IsOrder (w ∷ ws) x) same (holds b.0 (record { slot_word = s.0; words = ap₂ (λ (v : List ℕ) (r : List (List ℕ)). v ∷ r) is s.1; slot_is = s.2 }))
+    subst (λ (x : Order). IsOrder (w ∷ ws) x) same (holds b.0 (number_read command 3 w ws b.0 is b.1))
+
+workers_first : (w : List ℕ) (ws : List (List ℕ)) (x : ℕ × List (List ℕ)) → workers_argument 4 (w ∷ ws) ≡ Ok x → IsWorkers w x.0 × (ws ≡ x.1)
+unfolding workers_argument
+workers_first w ws x e =
+    let b = bind_ok (argument number_of kinds.Number 4 (w ∷ ws)) (if_workers 4) x e in
+    let a = argument_first number_of kinds.Number 4 w ws b.0 b.1 in
+    elim (chosen (leb 1 b.0.0 && leb b.0.0 16) (Ok b.0) _ (Ok x) b.2) [
+      | inl t ↦
+          let same : b.0 ≡ x = cc t.1 in
+          let p = and_parts (leb 1 b.0.0) (leb b.0.0 16) t.0 in
+          let whole : IsWorkers w b.0.0 × (ws ≡ b.0.1) = (record { number = a.0; least = leb-true _ _ p.0; most = leb-true _ _ p.1 }, a.1) in
+          subst (λ (v : ℕ × List (List ℕ)). IsWorkers w v.0 × (ws ≡ v.1)) same whole
+      | inr t ↦ absurd (cc t.1)
+    ]
+
+workers_word_again : (w : List ℕ) (n : ℕ) → IsWorkers w n → (rest : List (List ℕ)) → workers_argument 4 (w ∷ rest) ≡ Ok (n, rest)
+unfolding workers_argument
+workers_word_again w n h rest =
+    ap (λ (r : Result (ℕ × List (List ℕ)) WordFault). r >>= if_workers 4) (argument_again number_of kinds.Number 4 w n h.number rest)
+    ∙ cond-true (leb 1 n && leb n 16) (Ok (n, rest)) _ (and_from _ _ (le-leb 1 n h.least) (le-leb n 16 h.most))
+
+flush_read : (w : List ℕ) (ws : List (List ℕ)) (o : Order) → w ≡ codes "flush" → flush_of ws ≡ Ok o → IsOrder (w ∷ ws) o
+unfolding flush_of
+flush_read w ws o is e =
+    let slot = step _ _ _ ws _ o e in
+    let workers = further (λ v x. IsWorkers v x) (codes "1") 1 (workers_argument 4) one_worker workers_first slot.2 _ o slot.5 in
+    let done = at_end _ workers.2 _ o workers.5 in
+    let made : Order = Flush slot.1 workers.1 in
+    let same = value_same made o (Ok made) refl done.1 in
+    let words : w ∷ ws ≡ codes "flush" ∷ slot.0 ∷ slot.2 = ap₂ (λ (v : List ℕ) (r : List (List ℕ)). v ∷ r) is slot.3 in
+    let one : filled flush_defaults slot.2 ≡ workers.0 ∷ [] = workers.4 [] ∙ ap (λ (t : List (List ℕ)). workers.0 ∷ filled [] t) done.0 in
+    subst (λ (x : Order). IsOrder (w ∷ ws) x) same (record {
+      slot_word = slot.0;
+      further = slot.2;
+      workers_word = workers.0;
+      words = words;
+      slot_is = slot.4;
+      further_are = one;
+      workers_are = workers.3;
+    })
+
+flush_again : (ws : List (List ℕ)) (slot workers : ℕ) (h : IsFlush ws slot workers) → flush_of (h.slot_word ∷ h.further) ≡ Ok (Flush slot workers)
+unfolding flush_of argument ended
+flush_again ws slot workers h =
+    let more = further_again (codes "1") h.workers_word 1 workers (workers_argument 4) (workers_word_again (codes "1") 1 one_worker) (workers_word_again h.workers_word workers h.workers_are) h.further [] [] h.further_are in
+    rw (h.slot_is, more.1, none_left more.0 more.2) refl
 
 view_and_key_read : (ws : List (List ℕ)) (x : View × List ℕ) → view_and_key_of ws ≡ Ok x → (v k : List ℕ) × (ws ≡ v ∷ k ∷ []) × IsView v x.0 × (key_of k ≡ Some x.1)
 unfolding view_and_key_of
@@ -272,6 +332,17 @@ pick w c this others x e one more = elim (chosen (bytes_eq w c) this others x e)
   | inr t ↦ more t.1
 ]
 
+numbered_read : (w : List ℕ) (ws : List (List ℕ)) (o : Order) → numbered_of w ws ≡ Ok o → IsOrder (w ∷ ws) o
+unfolding numbered_of
+numbered_read w ws o e0 =
+    pick w (codes "root") _ _ _ e0 (number_ordered (codes "root") (λ n. Plain (Root n)) w ws o (λ n h. h)) (λ e1.
+    pick w (codes "purge") _ _ _ e1 (number_ordered (codes "purge") (λ n. Plain (Purge n)) w ws o (λ n h. h)) (λ e2.
+    pick w (codes "unpin") _ _ _ e2 (number_ordered (codes "unpin") (λ n. Plain (Unpin n)) w ws o (λ n h. h)) (λ e3.
+    pick w (codes "flush-begin") _ _ _ e3 (number_ordered (codes "flush-begin") (λ n. Plain (FlushBegin n)) w ws o (λ n h. h)) (λ e4.
+    pick w (codes "flush-end") _ _ _ e4 (number_ordered (codes "flush-end") (λ n. Plain (FlushEnd n)) w ws o (λ n h. h)) (λ e5.
+    pick w (codes "flush-abort") _ _ _ e5 (number_ordered (codes "flush-abort") (λ n. Plain (FlushAbort n)) w ws o (λ n h. h)) (λ e6.
+    absurd (cc e6)))))))
+
 order_read : (ws : List (List ℕ)) (o : Order) → order_of ws ≡ Ok o → IsOrder ws o
 unfolding order_of
 order_read [] o e = absurd cc
@@ -279,19 +350,23 @@ order_read (w ∷ ws) o e0 =
     pick w (codes "store") _ _ _ e0 (store_read w ws o) (λ e1.
     pick w (codes "get") _ _ _ e1 (view_order (codes "get") Get w ws o (λ v k h. h)) (λ e2.
     pick w (codes "load") _ _ _ e2 (view_order (codes "load") (λ v k. Plain (Load v k)) w ws o (λ v k h. h)) (λ e3.
-    pick w (codes "root") _ _ _ e3 (slot_order (codes "root") (λ n. Plain (Root n)) w ws o (λ n h. h)) (λ e4.
-    pick w (codes "purge") _ _ _ e4 (slot_order (codes "purge") (λ n. Plain (Purge n)) w ws o (λ n h. h)) (λ e5.
-    pick w (codes "stats") _ _ _ e5 (stats_read w ws o) (λ e6.
-    absurd (cc e6)))))))
+    pick w (codes "flush") _ _ _ e3 (flush_read w ws o) (λ e4.
+    pick w (codes "stats") _ _ _ e4 (stats_read w ws o) (λ e5.
+    numbered_read w ws o e5)))))
 
 order_again : (ws : List (List ℕ)) (o : Order) → IsOrder ws o → order_of ws ≡ Ok o
-unfolding order_of
+unfolding order_of numbered_of
 order_again ws (Plain (Store slot key account)) h = ap order_of h.words ∙ store_again ws slot key account h
-order_again ws (Plain (Root slot)) h = ap order_of h.words ∙ rw (slot_again h.slot_word slot h.slot_is) refl
-order_again ws (Plain (Purge slot)) h = ap order_of h.words ∙ rw (slot_again h.slot_word slot h.slot_is) refl
+order_again ws (Plain (Root slot)) h = ap order_of h.words ∙ rw (number_again 3 h.number_word slot h.number_is) refl
+order_again ws (Plain (Purge slot)) h = ap order_of h.words ∙ rw (number_again 3 h.number_word slot h.number_is) refl
+order_again ws (Plain (Unpin id)) h = ap order_of h.words ∙ rw (number_again 3 h.number_word id h.number_is) refl
+order_again ws (Plain (FlushBegin slot)) h = ap order_of h.words ∙ rw (number_again 3 h.number_word slot h.number_is) refl
+order_again ws (Plain (FlushEnd slot)) h = ap order_of h.words ∙ rw (number_again 3 h.number_word slot h.number_is) refl
+order_again ws (Plain (FlushAbort slot)) h = ap order_of h.words ∙ rw (number_again 3 h.number_word slot h.number_is) refl
 order_again ws (Plain (Load view key)) h = ap order_of h.words ∙ rw (view_order_again (codes "load") ws view key h) refl
 order_again ws (Plain Stats) h = ap order_of h ∙ stats_again
 order_again ws (Get view key) h = ap order_of h.words ∙ rw (view_order_again (codes "get") ws view key h) refl
+order_again ws (Flush slot workers) h = ap order_of h.words ∙ flush_again ws slot workers h
 order_again ws o h = absurd h
 
 -- ---- lines
@@ -309,12 +384,18 @@ lane_read (Some m) n e = elim (chosen (leb 1 m && leb m 64) (Some m) None (Some 
 lane_again : (o : Option ℕ) (n : ℕ) → o ≡ Some n → 1 ≤ n → n ≤ 64 → option_and_then if_lane o ≡ Some n
 lane_again o n e least most = ap (option_and_then if_lane) e ∙ cond-true (leb 1 n && leb n 64) (Some n) None (and_from _ _ (le-leb 1 n least) (le-leb n 64 most))
 
+-- the lane's word, and those after it
+lane_argument_ok : (ws : List (List ℕ)) (x : ℕ × List (List ℕ)) → lane_argument ws ≡ Ok x → (w : List ℕ) × (ws ≡ w ∷ x.1) × (lane_of w ≡ Some x.0)
+unfolding lane_argument
+lane_argument_ok [] x e = absurd cc
+lane_argument_ok (w ∷ ws) x e = let p = good_ok 1 (first_fault w) ws (lane_of w) x e in (w, ap (λ (l : List (List ℕ)). w ∷ l) p.1, p.0)
+
 line_read : (ws : List (List ℕ)) (line : Line) → line_of ws ≡ Ok line → IsLine ws line
 unfolding line_of
 line_read ws line e =
-    let a = bind_ok (argument lane_of kinds.Lane 1 ws) (λ lane. order_of lane.1 >>= λ order. Ok (record { lane = lane.0; order = order })) line e in
+    let a = bind_ok (lane_argument ws) (λ lane. order_of lane.1 >>= λ order. Ok (record { lane = lane.0; order = order })) line e in
     let b = bind_ok (order_of a.0.1) (λ order. Ok (record { lane = a.0.0; order = order })) line a.2 in
-    let w = argument_ok lane_of kinds.Lane 1 ws a.0 a.1 in
+    let w = lane_argument_ok ws a.0 a.1 in
     let one = lane_read (number_of w.0) a.0.0 w.2 in
     let made : Line = record { lane = a.0.0; order = b.0 } in
     let same : made ≡ line = cc b.2 in
@@ -322,7 +403,7 @@ line_read ws line e =
     (record { lane_word = w.0; order_words = a.0.1; words = w.1; lane_is = one.0; least = one.1; most = one.2; order = order_read a.0.1 b.0 b.1 })
 
 line_again : (ws : List (List ℕ)) (line : Line) → IsLine ws line → line_of ws ≡ Ok line
-unfolding line_of argument
+unfolding line_of lane_argument
 line_again ws line h =
     let read : lane_of h.lane_word ≡ Some line.lane = lane_again (number_of h.lane_word) line.lane h.lane_is h.least h.most in
     let order : order_of h.order_words ≡ Ok line.order = order_again h.order_words line.order h.order in
@@ -381,13 +462,104 @@ lines_again number [] [] h = refl
 lines_again number [] (line ∷ said) h = absurd h
 lines_again number (ws ∷ rest) said h = again_by number ws rest said (is_skipped ws) (λ more k. lines_again (number + 1) rest more k) h
 
-pub script_read : (bytes : List ℕ) (said : List Line) → script_of bytes ≡ Ok said → IsScript bytes said
-unfolding script_of
-script_read bytes said e = lines_read 1 (map words (lines bytes)) said (sym (by_words 1 (lines bytes)) ∙ e)
+-- what the lines of a lane say, by their words
+lines_by_words : (number : ℕ) (ls : List (List ℕ)) (said : List Line) → lines_from number ls ≡ Ok said → AreLines (filter counts (map words ls)) said
+lines_by_words number ls said e = lines_read number (map words ls) said (sym (by_words number ls) ∙ e)
 
-pub script_again : (bytes : List ℕ) (said : List Line) → IsScript bytes said → script_of bytes ≡ Ok said
+lines_by_words_again : (number : ℕ) (ls : List (List ℕ)) (said : List Line) → AreLines (filter counts (map words ls)) said → lines_from number ls ≡ Ok said
+lines_by_words_again number ls said h = by_words number ls ∙ lines_again number (map words ls) said h
+
+-- ---- headers
+
+with_budget_ok : (budget : Option ℕ) (r : Result (List Line) LineFault) (said : Said) → with_budget budget r ≡ Ok said → (r ≡ Ok said.lines) × (budget ≡ said.budget)
+with_budget_ok budget (Ok lines) said e =
+    let made : Said = record { budget = budget; lines = lines } in
+    let same : made ≡ said = cc e in
+    (ap (λ (s : Said). Ok s.lines) same, ap (λ (s : Said). s.budget) same)
+with_budget_ok budget (Err f) said e = absurd cc
+
+-- a header's words, after which lines stand
+header_read : (number : ℕ) (w : List ℕ) (ws : List (List ℕ)) (others : List (List (List ℕ))) (r : Result ℕ WordFault) (more : Result Said LineFault) (rest whole : Result (List Line) LineFault) (said : Said)
+    → ((n : ℕ) → r ≡ Ok n → IsOfNumber (codes "budget") (w ∷ ws) n) → ((lines : List Line) → rest ≡ Ok lines → AreLines others lines)
+    → headed number (r >>= λ budget. Ok (leadings.Header budget)) more rest whole ≡ Ok said
+    → AreSaid ((w ∷ ws) ∷ others) said.budget said.lines
+header_read number w ws others (Ok n) more rest whole said holds lines e =
+    let p = with_budget_ok (Some n) rest said e in
+    subst (λ (b : Option ℕ). AreSaid ((w ∷ ws) ∷ others) b said.lines) p.1 (holds n refl, lines said.lines p.0)
+header_read number w ws others (Err f) more rest whole said holds lines e = absurd cc
+
+-- a line that counts, which is a header or a lane's
+unskipped_read : (number : ℕ) (w : List ℕ) (ws : List (List ℕ)) (others : List (List (List ℕ))) (more : Result Said LineFault) (rest whole : Result (List Line) LineFault) (said : Said) (t : Bool) → is_header w ≡ t
+    → ((lines : List Line) → rest ≡ Ok lines → AreLines others lines) → ((lines : List Line) → whole ≡ Ok lines → AreLines ((w ∷ ws) ∷ others) lines)
+    → headed number (cond t (only_number 2 ws >>= λ budget. Ok (leadings.Header budget)) (Ok leadings.Lane)) more rest whole ≡ Ok said
+    → AreSaid ((w ∷ ws) ∷ others) said.budget said.lines
+unskipped_read number w ws others more rest whole said true is lines all e =
+    header_read number w ws others (only_number 2 ws) more rest whole said (λ n f. number_read (codes "budget") 2 w ws n (is_text w (codes "budget") is) f) lines e
+unskipped_read number w ws others more rest whole said false is lines all e =
+    let p = with_budget_ok None whole said e in
+    subst (λ (b : Option ℕ). AreSaid ((w ∷ ws) ∷ others) b said.lines) p.1 (all said.lines p.0)
+
+leading_read : (number : ℕ) (ws : List (List ℕ)) (others : List (List (List ℕ))) (more : Result Said LineFault) (rest whole : Result (List Line) LineFault) (said : Said) (t : Bool) → is_skipped ws ≡ t
+    → (more ≡ Ok said → AreSaid others said.budget said.lines)
+    → ((lines : List Line) → rest ≡ Ok lines → AreLines others lines) → ((lines : List Line) → whole ≡ Ok lines → AreLines (cond (not t) (ws ∷ others) others) lines)
+    → headed number (cond t (Ok leadings.Skipped) (unskipped ws)) more rest whole ≡ Ok said
+    → AreSaid (cond (not t) (ws ∷ others) others) said.budget said.lines
+leading_read number ws others more rest whole said true is past lines all e = past e
+leading_read number [] others more rest whole said false is past lines all e = absurd cc
+leading_read number (w ∷ ws) others more rest whole said false is past lines all e = unskipped_read number w ws others more rest whole said (is_header w) refl lines all e
+
+said_read : (number : ℕ) (ls : List (List ℕ)) (said : Said) → said_from number ls ≡ Ok said → AreSaid (filter counts (map words ls)) said.budget said.lines
+unfolding leading_of
+said_read number [] said e =
+    let empty : Said = record { budget = None; lines = [] } in
+    let same : empty ≡ said = cc e in
+    subst (λ (s : Said). AreSaid [] s.budget s.lines) same tt
+said_read number (l ∷ ls) said e =
+    leading_read number (words l) (filter counts (map words ls)) (said_from (number + 1) ls) (lines_from (number + 1) ls) (lines_from number (l ∷ ls)) said (is_skipped (words l)) refl
+    (λ h. said_read (number + 1) ls said h) (λ said h. lines_by_words (number + 1) ls said h) (λ said h. lines_by_words number (l ∷ ls) said h) e
+
+-- no number is the word of a header
+no_header : (w : List ℕ) (n : ℕ) → number_of w ≡ Some n → is_header w ≡ false
+no_header w n e = elim (cases_Bool (is_header w)) [
+  | inl t ↦ absurd (cc (e, ap number_of (is_text w (codes "budget") t), no_number))
+  | inr t ↦ t
+]
+
+where_header : (number : ℕ) (w : List ℕ) (ws : List (List ℕ)) (budget : ℕ) → IsOfNumber (codes "budget") (w ∷ ws) budget → unskipped (w ∷ ws) ≡ Ok (leadings.Header budget)
+where_header number w ws budget h =
+    let again = number_again 2 h.number_word budget h.number_is in
+    ap unskipped h.words ∙ rw again refl
+
+leading_again : (number : ℕ) (ws : List (List ℕ)) (others : List (List (List ℕ))) (more : Result Said LineFault) (rest whole : Result (List Line) LineFault) (budget : Option ℕ) (lines : List Line) (t : Bool)
+    → (AreSaid others budget lines → more ≡ Ok (record { budget = budget; lines = lines }))
+    → (AreLines others lines → rest ≡ Ok lines) → (AreLines (cond (not t) (ws ∷ others) others) lines → whole ≡ Ok lines)
+    → AreSaid (cond (not t) (ws ∷ others) others) budget lines
+    → headed number (cond t (Ok leadings.Skipped) (unskipped ws)) more rest whole ≡ Ok (record { budget = budget; lines = lines })
+leading_again number ws others more rest whole budget lines true past one all h = past h
+leading_again number [] others more rest whole (Some budget) lines false past one all h = absurd (cc h.0.words)
+leading_again number (w ∷ ws) others more rest whole (Some budget) lines false past one all h =
+    rw (where_header number w ws budget h.0, one h.1) refl
+leading_again number ws others more rest whole None [] false past one all h = absurd h
+leading_again number ws others more rest whole None (line ∷ lines) false past one all h =
+    let lane : unskipped ws ≡ Ok leadings.Lane = ap unskipped h.0.words ∙ rw (no_header h.0.lane_word line.lane h.0.lane_is) refl in
+    rw (lane, all h) refl
+
+said_again : (number : ℕ) (ls : List (List ℕ)) (budget : Option ℕ) (said : List Line) → AreSaid (filter counts (map words ls)) budget said → said_from number ls ≡ Ok (record { budget = budget; lines = said })
+unfolding leading_of
+said_again number [] None [] h = refl
+said_again number [] None (line ∷ said) h = absurd h
+said_again number [] (Some budget) said h = absurd h
+said_again number (l ∷ ls) budget said h =
+    leading_again number (words l) (filter counts (map words ls)) (said_from (number + 1) ls) (lines_from (number + 1) ls) (lines_from number (l ∷ ls)) budget said (is_skipped (words l))
+    (λ k. said_again (number + 1) ls budget said k) (λ k. lines_by_words_again (number + 1) ls said k) (λ k. lines_by_words_again number (l ∷ ls) said k) h
+
+pub script_read : (bytes : List ℕ) (said : Said) → script_of bytes ≡ Ok said → IsScript bytes said
 unfolding script_of
-script_again bytes said h = by_words 1 (lines bytes) ∙ lines_again 1 (map words (lines bytes)) said h
+script_read bytes said e = said_read 1 (lines bytes) said e
+
+pub script_again : (bytes : List ℕ) (said : Said) → IsScript bytes said → script_of bytes ≡ Ok said
+unfolding script_of
+script_again bytes said h = said_again 1 (lines bytes) said.budget said.lines h
 
 pub reads : ReadsTheGrammar
 reads bytes said = (script_read bytes said, script_again bytes said)

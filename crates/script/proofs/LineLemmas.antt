@@ -8,7 +8,7 @@ use Rattle.std.proofs.lemmas.List.Splits.{slice_split_at, slice_split_first, sli
 use Rattle.std.proofs.lemmas.List.Elements.{All-head, All-tail}
 use Rattle.script.specs.Laws.{IsTextLine, EndedLinesAreRead}
 use Rattle.script.specs.declared.fault.LineFault.{LineFault}
-use Rattle.adb_model.specs.Plays.{Line}
+use Rattle.script.specs.Said.{Line}
 
 -- lines that were read, and then the rest
 abbrev pub after_lines : List Line → Result (List Line) LineFault → Result (List Line) LineFault

@@ -1,13 +1,13 @@
 -- Scripts, as relations on lines and words.
-use Rattle.std.specs.Prelude.{◌≡◌, ◌≤◌, ℕ, Bool, not, List, [], ◌∷◌, ◌++◌, length, drop, codes, filter, map, Some}
+use Rattle.std.specs.Prelude.{◌≡◌, ◌≤◌, ℕ, Bool, not, List, [], ◌∷◌, ◌++◌, length, drop, codes, filter, map, Option, Some, None}
 use Rattle.std.specs.Str.Lines.{lines}
 use Rattle.adb_model.specs.Account.{Account, account_of}
-use Rattle.adb_model.specs.Call.{Store, Root, Purge, Load, Stats}
-use Rattle.adb_model.specs.Plays.{Order, Plain, Get, Line}
+use Rattle.adb_model.specs.Call.{Store, Root, Purge, Load, Unpin, FlushBegin, FlushEnd, FlushAbort, Stats}
 use Rattle.adb_model.specs.View.{View}
 use Rattle.text_fields.specs.Keys.{key_of}
 use Rattle.text_fields.specs.Numbers.{number_of}
 use Rattle.script.specs.Data.{IsData}
+use Rattle.script.specs.Said.{Order, Plain, Get, Flush, Line, Said}
 use Rattle.script.specs.Text.{flag_text}
 use Rattle.script.specs.Views.{IsView}
 use Rattle.script.specs.Words.{words, is_skipped}
@@ -48,11 +48,11 @@ pub record IsStore (ws : List (List ℕ)) (slot : ℕ) (key : List ℕ) (account
   pub further_are : AreFurther (filled store_defaults further) owner executable rent_epoch bytes
   pub account_is : account_of lamports owner executable rent_epoch bytes ≡ account
 
--- a command and a slot
-pub record IsOfSlot (command : List ℕ) (ws : List (List ℕ)) (slot : ℕ) : Type 0 where
-  pub slot_word : List ℕ
-  pub words : ws ≡ command ∷ slot_word ∷ []
-  pub slot_is : number_of slot_word ≡ Some slot
+-- a command and a number
+pub record IsOfNumber (command : List ℕ) (ws : List (List ℕ)) (number : ℕ) : Type 0 where
+  pub number_word : List ℕ
+  pub words : ws ≡ command ∷ number_word ∷ []
+  pub number_is : number_of number_word ≡ Some number
 
 -- a command, a view and a key
 pub record IsOfView (command : List ℕ) (ws : List (List ℕ)) (view : View) (key : List ℕ) : Type 0 where
@@ -62,14 +62,39 @@ pub record IsOfView (command : List ℕ) (ws : List (List ℕ)) (view : View) (k
   pub view_is : IsView view_word view
   pub key_is : key_of key_word ≡ Some key
 
+-- the workers of a flush that does not say them
+abbrev pub flush_defaults : List (List ℕ)
+flush_defaults = codes "1" ∷ []
+
+-- a number of workers, from 1 to 16
+pub record IsWorkers (w : List ℕ) (workers : ℕ) : Type 0 where
+  pub number : number_of w ≡ Some workers
+  pub least : 1 ≤ workers
+  pub most : workers ≤ 16
+
+-- `flush SLOT [WORKERS]`
+pub record IsFlush (ws : List (List ℕ)) (slot workers : ℕ) : Type 0 where
+  pub slot_word : List ℕ
+  pub further : List (List ℕ)
+  pub workers_word : List ℕ
+  pub words : ws ≡ codes "flush" ∷ slot_word ∷ further
+  pub slot_is : number_of slot_word ≡ Some slot
+  pub further_are : filled flush_defaults further ≡ workers_word ∷ []
+  pub workers_are : IsWorkers workers_word workers
+
 -- the words after the lane; nothing else is asked for yet
 abbrev pub IsOrder : List (List ℕ) → Order → Type 0
 IsOrder ws (Plain (Store slot key account)) = IsStore ws slot key account
-IsOrder ws (Plain (Root slot)) = IsOfSlot (codes "root") ws slot
-IsOrder ws (Plain (Purge slot)) = IsOfSlot (codes "purge") ws slot
+IsOrder ws (Plain (Root slot)) = IsOfNumber (codes "root") ws slot
+IsOrder ws (Plain (Purge slot)) = IsOfNumber (codes "purge") ws slot
 IsOrder ws (Plain (Load view key)) = IsOfView (codes "load") ws view key
+IsOrder ws (Plain (Unpin id)) = IsOfNumber (codes "unpin") ws id
+IsOrder ws (Plain (FlushBegin slot)) = IsOfNumber (codes "flush-begin") ws slot
+IsOrder ws (Plain (FlushEnd slot)) = IsOfNumber (codes "flush-end") ws slot
+IsOrder ws (Plain (FlushAbort slot)) = IsOfNumber (codes "flush-abort") ws slot
 IsOrder ws (Plain Stats) = ws ≡ codes "stats" ∷ []
 IsOrder ws (Get view key) = IsOfView (codes "get") ws view key
+IsOrder ws (Flush slot workers) = IsFlush ws slot workers
 IsOrder ws order = ⊥
 
 -- the words of a line: a lane from 1 to 64, and what it is to do
@@ -89,14 +114,20 @@ AreLines (ws ∷ rest) (line ∷ lines) = IsLine ws line × AreLines rest lines
 AreLines [] (line ∷ lines) = ⊥
 AreLines (ws ∷ rest) [] = ⊥
 
+-- `budget N` is the first of them, where there is a budget; the others are the lines
+abbrev pub AreSaid : List (List (List ℕ)) → Option ℕ → List Line → Type 0
+AreSaid wss None lines = AreLines wss lines
+AreSaid (ws ∷ rest) (Some budget) lines = IsOfNumber (codes "budget") ws budget × AreLines rest lines
+AreSaid [] (Some budget) lines = ⊥
+
 -- the lines of some bytes, each as its words, but for those that are skipped
 abbrev pub spoken : List (List ℕ) → List (List (List ℕ))
 spoken ls = filter (λ ws. not (is_skipped ws)) (map words ls)
 
--- the bytes are a script that says these lines
-abbrev pub IsScript : List ℕ → List Line → Type 0
-IsScript bytes said = AreLines (spoken (lines bytes)) said
+-- the bytes are a script that says this
+abbrev pub IsScript : List ℕ → Said → Type 0
+IsScript bytes said = AreSaid (spoken (lines bytes)) said.budget said.lines
 
 -- the bytes are no script
 abbrev pub IsNoScript : List ℕ → Type 0
-IsNoScript bytes = (said : List Line) → ¬ IsScript bytes said
+IsNoScript bytes = (said : Said) → ¬ IsScript bytes said

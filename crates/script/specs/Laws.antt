@@ -3,15 +3,15 @@ use Rattle.std.specs.Prelude.{◌≡◌, ◌≢◌, ◌↔◌, ◌<◌, ◌-◌,
 use Rattle.std.specs.List.{All, flat_map}
 use Rattle.std.specs.Str.{bytes_eq}
 use Rattle.std.specs.Str.Lines.{lines}
-use Rattle.adb_model.specs.Plays.{Line}
 use Rattle.script.specs.Grammar.{IsScript}
 use Rattle.script.specs.Reader.{script_of}
+use Rattle.script.specs.Said.{Said}
 use Rattle.script.specs.Text.{spaced}
 use Rattle.script.specs.Words.{is_blank, words}
 
 -- what is read is in the grammar, and what is in the grammar is read
 abbrev pub ReadsTheGrammar : Type 0
-ReadsTheGrammar = (bytes : List ℕ) (said : List Line) → (script_of bytes ≡ Ok said) ↔ IsScript bytes said
+ReadsTheGrammar = (bytes : List ℕ) (said : Said) → (script_of bytes ≡ Ok said) ↔ IsScript bytes said
 
 -- a word as it may stand in a line: not empty, and without blanks
 pub record IsWord (w : List ℕ) : Type 0 where

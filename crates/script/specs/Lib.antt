@@ -3,6 +3,7 @@ pub mod Arguments
 pub mod Views
 pub mod Data
 pub mod Text
+pub mod Said
 pub mod Grammar
 pub mod Reader
 pub mod Seen

@@ -1,18 +1,20 @@
 -- A script as it is read, from left to right: its lines, or the first bad word.
-use Rattle.std.specs.Prelude.{ℕ, ◌+◌, nat_le, ◌&&◌, false, if◌then◌else◌, List, [], ◌∷◌, length, codes, replicate, Option, Some, None, option_and_then, Result, Ok, Err}
+use Rattle.std.specs.Prelude.{ℕ, ◌+◌, nat_le, ◌&&◌, Bool, false, if◌then◌else◌, List, [], ◌∷◌, length, codes, replicate, Option, Some, None, option_and_then, Result, Ok, Err}
 use Rattle.std.specs.Str.{bytes_eq}
 use Rattle.std.specs.Str.Lines.{lines}
 use Rattle.adb_model.specs.Account.{account_of}
-use Rattle.adb_model.specs.Call.{Store, Root, Purge, Load, Stats}
+use Rattle.adb_model.specs.Call.{Store, Root, Purge, Load, Unpin, FlushBegin, FlushEnd, FlushAbort, Stats}
 use Rattle.adb_model.specs.View.{View}
-use Rattle.adb_model.specs.Plays.{Order, Plain, Get, Line}
 use Rattle.text_fields.specs.Keys.{key_of}
 use Rattle.text_fields.specs.Numbers.{number_of}
 use Rattle.script.specs.declared.fault.Kind.{Kind}
 use Rattle.script.specs.declared.fault.Kind.TheVariants as kinds
 use Rattle.script.specs.declared.fault.WordFault.{WordFault}
 use Rattle.script.specs.declared.fault.LineFault.{LineFault}
+use Rattle.script.specs.declared.line.Leading.{Leading}
+use Rattle.script.specs.declared.line.Leading.TheVariants as leadings
 use Rattle.script.specs.Arguments.{view_of, flag_of, data_of}
+use Rattle.script.specs.Said.{Order, Plain, Get, Flush, Line, Said}
 use Rattle.script.specs.Words.{words, is_skipped}
 
 -- the second step, where the first gave a value
@@ -71,12 +73,31 @@ store_of ws = do
   done ← ended 10 bytes.1
   Ok (Plain (Store slot.0 key.0 (account_of lamports.0 owner.0 executable.0 epoch.0 bytes.0)))
 
--- the slot of an order that has no more than that
-unfoldable pub slot_of : List (List ℕ) → Result ℕ WordFault
-slot_of ws = do
+-- the number at this place of the line, where no more words follow
+unfoldable pub only_number : ℕ → List (List ℕ) → Result ℕ WordFault
+only_number word ws = do
+  number ← argument number_of kinds.Number word ws
+  done ← ended (word + 1) number.1
+  Ok number.0
+
+-- the number of an order that has no more than that
+abbrev pub number_order : (ℕ → Order) → List (List ℕ) → Result Order WordFault
+number_order order ws = only_number 3 ws >>= λ n. Ok (order n)
+
+-- 1 to 16 workers
+abbrev pub if_workers : {B : Type 0} → ℕ → ℕ × B → Result (ℕ × B) WordFault
+if_workers word x = if nat_le 1 x.0 && nat_le x.0 16 then Ok x else fault word kinds.Range
+
+-- the workers of a flush
+unfoldable pub workers_argument : ℕ → List (List ℕ) → Result (ℕ × List (List ℕ)) WordFault
+workers_argument word ws = argument number_of kinds.Number word ws >>= if_workers word
+
+unfoldable pub flush_of : List (List ℕ) → Result Order WordFault
+flush_of ws = do
   slot ← argument number_of kinds.Number 3 ws
-  done ← ended 4 slot.1
-  Ok slot.0
+  workers ← optional 1 (workers_argument 4) slot.1
+  done ← ended 5 workers.1
+  Ok (Flush slot.0 workers.0)
 
 -- the view and the key of an order that has no more than that
 unfoldable pub view_and_key_of : List (List ℕ) → Result (View × List ℕ) WordFault
@@ -86,20 +107,43 @@ view_and_key_of ws = do
   done ← ended 5 key.1
   Ok (view.0, key.0)
 
+-- the commands that have a number and no more
+unfoldable pub numbered_of : List ℕ → List (List ℕ) → Result Order WordFault
+numbered_of w ws =
+    if bytes_eq w (codes "root") then number_order (λ slot. Plain (Root slot)) ws
+    else if bytes_eq w (codes "purge") then number_order (λ slot. Plain (Purge slot)) ws
+    else if bytes_eq w (codes "unpin") then number_order (λ id. Plain (Unpin id)) ws
+    else if bytes_eq w (codes "flush-begin") then number_order (λ slot. Plain (FlushBegin slot)) ws
+    else if bytes_eq w (codes "flush-end") then number_order (λ slot. Plain (FlushEnd slot)) ws
+    else if bytes_eq w (codes "flush-abort") then number_order (λ slot. Plain (FlushAbort slot)) ws
+    else fault 2 kinds.Unknown
+
 unfoldable pub order_of : List (List ℕ) → Result Order WordFault
 order_of [] = fault 2 kinds.Missing
 order_of (w ∷ ws) =
     if bytes_eq w (codes "store") then store_of ws
     else if bytes_eq w (codes "get") then (view_and_key_of ws >>= λ x. Ok (Get x.0 x.1))
     else if bytes_eq w (codes "load") then (view_and_key_of ws >>= λ x. Ok (Plain (Load x.0 x.1)))
-    else if bytes_eq w (codes "root") then (slot_of ws >>= λ slot. Ok (Plain (Root slot)))
-    else if bytes_eq w (codes "purge") then (slot_of ws >>= λ slot. Ok (Plain (Purge slot)))
+    else if bytes_eq w (codes "flush") then flush_of ws
     else if bytes_eq w (codes "stats") then (ended 3 ws >>= λ done. Ok (Plain Stats))
-    else fault 2 kinds.Unknown
+    else numbered_of w ws
+
+-- the first word of a header
+abbrev pub is_header : List ℕ → Bool
+is_header w = bytes_eq w (codes "budget")
+
+-- what is wrong with a first word that is no lane: a header stands before all other lines, and once
+unfoldable pub first_fault : List ℕ → Kind
+first_fault w = if is_header w then kinds.Header else kinds.Lane
+
+-- the lane, and the words after it
+unfoldable pub lane_argument : List (List ℕ) → Result (ℕ × List (List ℕ)) WordFault
+lane_argument [] = fault 1 kinds.Missing
+lane_argument (w ∷ ws) = good 1 (first_fault w) ws (lane_of w)
 
 unfoldable pub line_of : List (List ℕ) → Result Line WordFault
 line_of ws = do
-  lane ← argument lane_of kinds.Lane 1 ws
+  lane ← lane_argument ws
   order ← order_of lane.1
   Ok (record { lane = lane.0; order = order })
 
@@ -119,6 +163,31 @@ abbrev pub lines_from : ℕ → List (List ℕ) → Result (List Line) LineFault
 lines_from number [] = Ok []
 lines_from number (l ∷ ls) = and_then number (said_by (words l)) (lines_from (number + 1) ls)
 
+-- a budget, and the lines after it
+abbrev pub with_budget : Option ℕ → Result (List Line) LineFault → Result Said LineFault
+with_budget budget (Ok lines) = Ok (record { budget = budget; lines = lines })
+with_budget budget (Err f) = Err f
+
+-- what a line is before which only skipped ones stand
+abbrev pub unskipped : List (List ℕ) → Result Leading WordFault
+unskipped [] = Ok leadings.Skipped
+unskipped (w ∷ ws) = if is_header w then (only_number 2 ws >>= λ budget. Ok (leadings.Header budget)) else Ok leadings.Lane
+
+unfoldable pub leading_of : List (List ℕ) → Result Leading WordFault
+leading_of ws = if is_skipped ws then Ok leadings.Skipped else unskipped ws
+
+-- a leading line of this kind; what the lines after it say, with a header or without; and what it and they say
+abbrev pub headed : ℕ → Result Leading WordFault → Result Said LineFault → Result (List Line) LineFault → Result (List Line) LineFault → Result Said LineFault
+headed number (Err f) more rest whole = Err (record { line = number; word = f.word; kind = f.kind })
+headed number (Ok leadings.Skipped) more rest whole = more
+headed number (Ok (leadings.Header budget)) more rest whole = with_budget (Some budget) rest
+headed number (Ok leadings.Lane) more rest whole = with_budget None whole
+
+-- what some lines say that may begin with a header
+abbrev pub said_from : ℕ → List (List ℕ) → Result Said LineFault
+said_from number [] = Ok (record { budget = None; lines = [] })
+said_from number (l ∷ ls) = headed number (leading_of (words l)) (said_from (number + 1) ls) (lines_from (number + 1) ls) (lines_from number (l ∷ ls))
+
 -- what the bytes of a script say, or their first bad word
-unfoldable pub script_of : List ℕ → Result (List Line) LineFault
-script_of bytes = lines_from 1 (lines bytes)
+unfoldable pub script_of : List ℕ → Result Said LineFault
+script_of bytes = said_from 1 (lines bytes)

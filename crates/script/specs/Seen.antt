@@ -1,6 +1,5 @@
 -- What the program's values stand for.
-use Rattle.std.specs.Prelude.{◌≡◌, ℕ, List, map, Result, Ok, Err}
-use Rattle.adb_model.specs.Plays as machine
+use Rattle.std.specs.Prelude.{◌≡◌, ℕ, map, Result, Ok, Err}
 use Rattle.adb_model.specs.Seen.{call_of}
 use Rattle.script.specs.declared.fault.WordFault.{WordFault}
 use Rattle.script.specs.declared.fault.LineFault.{LineFault}
@@ -12,17 +11,20 @@ use Rattle.script.specs.declared.line.Order.{Order}
 use Rattle.script.specs.declared.line.Order.TheVariants as orders
 use Rattle.script.specs.declared.line.Line.{Line}
 use Rattle.script.specs.declared.line.Script.{Script}
+use Rattle.script.specs.Said as said
+use Rattle.script.specs.Said.{Said}
 
-abbrev pub order_seen : Order → machine.Order
-order_seen (orders.Event call) = machine.Plain (call_of call)
-order_seen (orders.Get view key) = machine.Get view key.0
+abbrev pub order_seen : Order → said.Order
+order_seen (orders.Event call) = said.Plain (call_of call)
+order_seen (orders.Get view key) = said.Get view key.0
+order_seen (orders.Flush slot workers) = said.Flush slot workers
 
-abbrev pub line_seen : Line → machine.Line
+abbrev pub line_seen : Line → said.Line
 line_seen l = record { lane = l.lane; order = order_seen l.order }
 
--- the lines of a script
-abbrev pub lines_seen : Script → List machine.Line
-lines_seen s = map line_seen s.lines.items
+-- what a script says
+abbrev pub script_seen : Script → Said
+script_seen s = record { budget = s.budget; lines = map line_seen s.lines.items }
 
 -- what a function answered, seen so, is what the reader gives, unless memory ran out
 abbrev pub Fails : {Y : Type 0} → ReadError → Result Y WordFault → Type 0
@@ -34,13 +36,13 @@ Gives view (Ok x) read = read ≡ Ok (view x)
 Gives view (Err e) read = Fails e read
 
 -- the same of a whole script
-abbrev pub FailsScript : LineError → Result (List machine.Line) LineFault → Type 0
+abbrev pub FailsScript : {Y : Type 0} → LineError → Result Y LineFault → Type 0
 FailsScript line_errors.Memory read = Unit {0}
 FailsScript (line_errors.Fault f) read = read ≡ Err f
 
-abbrev pub GivesScript : Result Script LineError → Result (List machine.Line) LineFault → Type 0
-GivesScript (Ok s) read = read ≡ Ok (lines_seen s)
-GivesScript (Err e) read = FailsScript e read
+abbrev pub GivesScript : {X Y : Type 0} → (X → Y) → Result X LineError → Result Y LineFault → Type 0
+GivesScript view (Ok x) read = read ≡ Ok (view x)
+GivesScript view (Err e) read = FailsScript e read
 
 -- the error of a line's word, by the line's number
 abbrev pub error_at : ℕ → ReadError → LineError

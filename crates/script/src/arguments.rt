@@ -15,6 +15,9 @@ use adb_model::{Key, View};
 use std::alloc::Global;
 use text_fields::{read_key, read_number};
 
+/// The most workers of a flush.
+const MOST_WORKERS: u64 = 16;
+
 /// The number that the line's next word is, which has this place, and the rest of the line.
 #[tactic(auto, unfolding(crate::specs::Reader::argument))]
 pub fn number_at(word: u32, line: &[u8]) -> Result<(u64, &[u8]), ReadError>
@@ -114,6 +117,21 @@ pub fn epoch_at(line: &[u8]) -> Result<(u64, &[u8]), ReadError>
     match read_number(text) {
         Some(epoch) => Ok((epoch, rest)),
         None => Err(fault(8, Kind::Number)),
+    }
+}
+
+/// The workers of a flush, by the fourth word; one where there is none.
+#[tactic(auto, unfolding(crate::specs::Reader::argument, crate::specs::Reader::workers_argument))]
+pub fn workers_at(line: &[u8]) -> Result<(usize, &[u8]), ReadError>
+    ensures { Gives (λ x. (x.0, words x.1.now)) result (reader.optional 1 (reader.workers_argument 4) (words line.now)) }
+{
+    let Some((text, rest)) = split_word(line) else {
+        return Ok((1, line));
+    };
+    match read_number(text) {
+        Some(workers @ 1..=MOST_WORKERS) => Ok((workers as usize, rest)),
+        Some(_) => Err(fault(4, Kind::Range)),
+        None => Err(fault(4, Kind::Number)),
     }
 }
 

@@ -7,9 +7,8 @@ ghost use Rattle.script.specs.declared.data_words.DataError.TheVariants as data_
 
 use crate::words::halves;
 use adb_model::MAX_DATA_LEN;
-use hex::FromHexError;
 use std::alloc::{AllocError, Global};
-use text_fields::read_number;
+use text_fields::{read_hex, read_number};
 
 /// Why a word gives no data.
 #[derive(Clone, Copy, Debug, PartialEq, Eq)]
@@ -95,10 +94,9 @@ fn read_digits(alloc: Global, word: &[u8]) -> Result<Vec<u8>, DataError>
         };
         return Err(error);
     }
-    match hex::decode(alloc, word) {
-        Ok(bytes) => Ok(bytes),
-        Err(FromHexError::OutOfMemory) => Err(DataError::Memory),
-        Err(_) => Err(DataError::Form),
+    match read_hex(alloc, word)? {
+        Some(bytes) => Ok(bytes),
+        None => Err(DataError::Form),
     }
 }
 

@@ -16,6 +16,7 @@ pub enum ScriptFault {
 /// What is wrong with a word.
 #[derive(Clone, Copy, Debug, PartialEq, Eq)]
 pub enum Kind {
+    Header,
     Lane,
     Unknown,
     Missing,

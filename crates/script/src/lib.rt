@@ -19,7 +19,7 @@ mod words;
 
 pub use fault::ScriptFault;
 pub use laws::{ended_lines_are_read, reads_the_grammar, spaced_words_are_read};
-pub use line::{Line, Order, Script};
+pub use line::{DEFAULT_BUDGET, Line, Order, Script};
 pub use parsing::parse;
 pub use text::{JournalPrinter, line_text};
 

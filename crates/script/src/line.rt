@@ -1,4 +1,10 @@
-use adb_model::{Call, Key, View};
+ghost use Rattle.std.specs.Prelude.{◌≡◌};
+ghost use Rattle.script.specs.Said.{budget_of};
+
+use adb_model::{Call, Key, Slot, View};
+
+/// The most bytes that the storages have together, where no header says another number.
+pub const DEFAULT_BUDGET: u64 = 4_294_967_296;
 
 /// What a line of a script asks for.
 #[derive(Drop)]
@@ -7,6 +13,8 @@ pub enum Order {
     Event(Call),
     /// A load whose pin, if it takes one, is given back at once.
     Get { view: View, key: Key },
+    /// A flush, begun and, where it began, ended. So many workers, 1 to 16, fill its storage.
+    Flush { slot: Slot, workers: usize },
 }
 
 /// A line of a script: the lane that plays it, and what it asks for.
@@ -16,8 +24,30 @@ pub struct Line {
     pub order: Order,
 }
 
-/// What a script says: its lines, but for the skipped ones.
+/// What a script says: the budget of its header, if it has one, and its lines, but for the skipped ones.
 #[derive(Drop)]
 pub struct Script {
+    /// The most bytes that the storages have together.
+    pub budget: Option<u64>,
     pub lines: Vec<Line>,
+}
+
+impl Script {
+    /// The header's budget, or the default where there is no header.
+    pub fn byte_budget(&self) -> u64
+        ensures { result ≡ budget_of self.now.budget }
+    {
+        self.budget.unwrap_or(DEFAULT_BUDGET)
+    }
+}
+
+/// What a line is before which only skipped ones stand.
+#[derive(Clone, Copy, Debug, PartialEq, Eq)]
+pub enum Leading {
+    /// It is skipped.
+    Skipped,
+    /// A header, which says the budget.
+    Header { budget: u64 },
+    /// A lane's line.
+    Lane,
 }

@@ -1,15 +1,15 @@
-ghost use Rattle.std.specs.Prelude.{◌≡◌, ◌==◌, ◌<◌, ◌∷◌, length, IfOk};
+ghost use Rattle.std.specs.Prelude.{◌≡◌, ◌==◌, ◌<◌, ◌≤◌, ◌+◌, ◌^◌, ◌∷◌, length, map, IfOk, IfErr};
 ghost use Rattle.std.specs.List.{position_or_len};
 ghost use Rattle.std.specs.Option.{option_map};
 ghost use Rattle.std.specs.Str.Lines.{lines as lines_of, strip_carriage_return};
 ghost use Rattle.script.specs.Grammar.{IsScript, IsNoScript};
-ghost use Rattle.script.specs.Reader.{said_by, script_of};
-ghost use Rattle.script.specs.Seen.{Gives, GivesScript, line_seen, lines_seen, error_at};
+ghost use Rattle.script.specs.Reader.{said_by, lines_from, with_budget, script_of};
+ghost use Rattle.script.specs.Seen.{Gives, FailsScript, GivesScript, line_seen, script_seen, error_at};
 ghost use Rattle.script.specs.Words.{words};
 
 use crate::fault::{LineError, LineFault, ReadError, ScriptFault};
-use crate::line::{Line, Script};
-use crate::reading::read_line;
+use crate::line::{Leading, Line, Script};
+use crate::reading::{read_leading, read_line};
 use crate::view_words::LastView;
 use crate::words::{begins_comment, split_word};
 use memchr::memchr;
@@ -77,15 +77,62 @@ fn at_line(line: u64, error: ReadError) -> LineError
     }
 }
 
-/// What the bytes of a script say, or their first bad word.
+// The header of a script, if it has one, and the lines after it, of which the first has this number.
+#[derive(Drop)]
+struct Header<'a> {
+    budget: Option<u64>,
+    number: u64,
+    rest: &'a [u8],
+}
+
+// A script's header, or its first bad word.
 #[tactic(auto, unfolding(crate::specs::Reader::script_of))]
-pub fn read_script(alloc: Global, bytes: &[u8]) -> Result<Script, LineError>
-    ensures { GivesScript result (script_of bytes.now) }
+fn read_header(bytes: &[u8]) -> Result<Header<'_>, LineError>
+    ensures header { IfOk result (λ h. script_of bytes.now ≡ with_budget h.budget (lines_from h.number (lines_of h.rest.now))) }
+    ensures counted { IfOk result (λ h. h.number + length h.rest.now ≤ length bytes.now + 1) }
+    ensures fault { IfErr result (λ e. FailsScript e (script_of bytes.now)) }
+{
+    let mut rest = bytes;
+    let mut number = 1;
+    while !rest.is_empty() {
+        let (line, after) = next_line(rest);
+        match read_leading(line) {
+            Ok(Leading::Skipped) => {}
+            Ok(Leading::Header { budget }) => {
+                return Ok(Header {
+                    budget: Some(budget),
+                    number: number + 1,
+                    rest: after,
+                });
+            }
+            Ok(Leading::Lane) => {
+                return Ok(Header {
+                    budget: None,
+                    number,
+                    rest,
+                });
+            }
+            Err(error) => return Err(at_line(number, error)),
+        }
+        number += 1;
+        rest = after;
+    }
+    Ok(Header {
+        budget: None,
+        number,
+        rest,
+    })
+}
+
+// What lines say that have no header, or their first bad word. The first of them has this number.
+fn read_lines(alloc: Global, first: u64, bytes: &[u8]) -> Result<Vec<Line>, LineError>
+    requires { first + length bytes.now < 2 ^ 64 }
+    ensures { GivesScript (λ lines. map line_seen lines.items) result (lines_from first (lines_of bytes.now)) }
 {
     let mut lines = Vec::new(alloc);
     let mut last = LastView::new();
     let mut rest = bytes;
-    let mut number = 1;
+    let mut number = first;
     while !rest.is_empty() {
         let (line, after) = next_line(rest);
         match said(alloc, &mut last, line) {
@@ -96,7 +143,19 @@ pub fn read_script(alloc: Global, bytes: &[u8]) -> Result<Script, LineError>
         number += 1;
         rest = after;
     }
-    Ok(Script { lines })
+    Ok(lines)
+}
+
+/// What the bytes of a script say, or their first bad word.
+pub fn read_script(alloc: Global, bytes: &[u8]) -> Result<Script, LineError>
+    ensures { GivesScript script_seen result (script_of bytes.now) }
+{
+    let header = read_header(bytes)?;
+    let lines = read_lines(alloc, header.number, header.rest)?;
+    Ok(Script {
+        budget: header.budget,
+        lines,
+    })
 }
 
 /// What the bytes of a script say.
@@ -104,7 +163,7 @@ pub fn read_script(alloc: Global, bytes: &[u8]) -> Result<Script, LineError>
 /// # Errors
 /// `Form` exactly where the bytes are no script, unless memory runs out, which is `NoMemory`.
 pub fn parse(alloc: Global, bytes: &[u8]) -> Result<Script, ScriptFault>
-    ensures script { IfOk result (λ script. IsScript bytes.now (lines_seen script)) }
+    ensures script { IfOk result (λ script. IsScript bytes.now (script_seen script)) }
     ensures form { result ≡ Err ScriptFault.Form → IsNoScript bytes.now }
 {
     match read_script(alloc, bytes) {

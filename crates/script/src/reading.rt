@@ -1,18 +1,17 @@
-ghost use Rattle.std.specs.Prelude.{◌≡◌, ◌≤◌, List, ℕ, [], ◌∷◌, length, IfOk};
-ghost use Rattle.script.specs.declared.fault.Kind.TheVariants as kinds;
+ghost use Rattle.std.specs.Prelude.{◌≡◌, ◌≤◌, ◌<◌, List, ℕ, [], ◌∷◌, length, IfOk};
 ghost use Rattle.adb_model.specs.Account.{account_of};
 ghost use Rattle.script.specs.Reader as reader;
 ghost use Rattle.script.specs.Seen.{Gives, order_seen, line_seen};
 ghost use Rattle.script.specs.Words.{words};
 
 use crate::arguments::{
-    data_at, end, epoch_at, executable_at, key_at, number_at, owner_at, view_at,
+    data_at, end, epoch_at, executable_at, key_at, number_at, owner_at, view_at, workers_at,
 };
 use crate::fault::{Kind, ReadError, fault};
-use crate::line::{Line, Order};
+use crate::line::{Leading, Line, Order};
 use crate::view_words::LastView;
-use crate::words::split_word;
-use adb_model::{Account, Call, Key, Slot, View};
+use crate::words::{begins_comment, begins_header, split_word};
+use adb_model::{Account, Call, Key, View};
 use std::alloc::{AllocError, Global};
 use std::sync::Arc;
 use text_fields::read_number;
@@ -53,14 +52,25 @@ fn store(alloc: Global, line: &[u8]) -> Result<Order, ReadError>
     Ok(Order::Event(Call::Store { slot, key, account }))
 }
 
-// The slot of an order that has no more than that.
-#[tactic(auto, unfolding(crate::specs::Reader::slot_of))]
-fn slot(line: &[u8]) -> Result<Slot, ReadError>
-    ensures { Gives (λ n. n) result (reader.slot_of (words line.now)) }
+/// The number that has this place in the line, where no more words follow.
+#[tactic(auto, unfolding(crate::specs::Reader::only_number))]
+pub fn only_number(word: u32, line: &[u8]) -> Result<u64, ReadError>
+    requires { word < 10 }
+    ensures { Gives (λ n. n) result (reader.only_number word (words line.now)) }
+{
+    let (number, rest) = number_at(word, line)?;
+    end(word + 1, rest)?;
+    Ok(number)
+}
+
+#[tactic(auto, unfolding(crate::specs::Reader::flush_of))]
+fn flush(line: &[u8]) -> Result<Order, ReadError>
+    ensures { Gives order_seen result (reader.flush_of (words line.now)) }
 {
     let (slot, rest) = number_at(3, line)?;
-    end(4, rest)?;
-    Ok(slot)
+    let (workers, rest) = workers_at(rest)?;
+    end(5, rest)?;
+    Ok(Order::Flush { slot, workers })
 }
 
 // The view and the key of an order that has no more than that.
@@ -78,6 +88,34 @@ fn view_and_key<'a>(
     Ok((view, key))
 }
 
+// What a command asks for that has a number and no more.
+#[tactic(auto, unfolding(crate::specs::Reader::numbered_of))]
+fn numbered(command: &[u8], line: &[u8]) -> Result<Order, ReadError>
+    ensures { Gives order_seen result (reader.numbered_of command.now (words line.now)) }
+{
+    if command == b"root".as_slice() {
+        let slot = only_number(3, line)?;
+        Ok(Order::Event(Call::Root { slot }))
+    } else if command == b"purge".as_slice() {
+        let slot = only_number(3, line)?;
+        Ok(Order::Event(Call::Purge { slot }))
+    } else if command == b"unpin".as_slice() {
+        let id = only_number(3, line)?;
+        Ok(Order::Event(Call::Unpin { id }))
+    } else if command == b"flush-begin".as_slice() {
+        let slot = only_number(3, line)?;
+        Ok(Order::Event(Call::FlushBegin { slot }))
+    } else if command == b"flush-end".as_slice() {
+        let slot = only_number(3, line)?;
+        Ok(Order::Event(Call::FlushEnd { slot }))
+    } else if command == b"flush-abort".as_slice() {
+        let slot = only_number(3, line)?;
+        Ok(Order::Event(Call::FlushAbort { slot }))
+    } else {
+        Err(fault(2, Kind::Unknown))
+    }
+}
+
 #[tactic(auto, unfolding(crate::specs::Reader::order_of))]
 fn order<'a>(alloc: Global, last: &mut LastView<'a>, line: &'a [u8]) -> Result<Order, ReadError>
     ensures { Gives order_seen result (reader.order_of (words line.now)) }
@@ -93,31 +131,57 @@ fn order<'a>(alloc: Global, last: &mut LastView<'a>, line: &'a [u8]) -> Result<O
     } else if command == b"load".as_slice() {
         let (view, key) = view_and_key(alloc, last, rest)?;
         Ok(Order::Event(Call::Load { view, key }))
-    } else if command == b"root".as_slice() {
-        let slot = slot(rest)?;
-        Ok(Order::Event(Call::Root { slot }))
-    } else if command == b"purge".as_slice() {
-        let slot = slot(rest)?;
-        Ok(Order::Event(Call::Purge { slot }))
+    } else if command == b"flush".as_slice() {
+        flush(rest)
     } else if command == b"stats".as_slice() {
         end(3, rest)?;
         Ok(Order::Event(Call::Stats))
     } else {
-        Err(fault(2, Kind::Unknown))
+        numbered(command, rest)
+    }
+}
+
+// What is wrong with a first word that is no lane.
+#[tactic(auto, unfolding(crate::specs::Reader::first_fault))]
+fn first_fault(word: &[u8]) -> Kind
+    ensures { result ≡ reader.first_fault word.now }
+{
+    if begins_header(word) {
+        Kind::Header
+    } else {
+        Kind::Lane
     }
 }
 
 fn lane(word: &[u8]) -> Result<u64, ReadError>
-    ensures { Gives (λ n. (n, [])) result (reader.good 1 kinds.Lane [] (reader.lane_of word.now)) }
+    ensures { Gives (λ n. (n, [])) result (reader.good 1 (reader.first_fault word.now) [] (reader.lane_of word.now)) }
 {
     match read_number(word) {
         Some(lane @ 1..=MOST_LANES) => Ok(lane),
-        _ => Err(fault(1, Kind::Lane)),
+        _ => Err(fault(1, first_fault(word))),
     }
 }
 
+/// What a line is before which only skipped ones stand.
+#[tactic(auto, unfolding(crate::specs::Reader::leading_of))]
+pub fn read_leading(line: &[u8]) -> Result<Leading, ReadError>
+    ensures { Gives (λ leading. leading) result (reader.leading_of (words line.now)) }
+{
+    let Some((first, rest)) = split_word(line) else {
+        return Ok(Leading::Skipped);
+    };
+    if begins_comment(first) {
+        return Ok(Leading::Skipped);
+    }
+    if !begins_header(first) {
+        return Ok(Leading::Lane);
+    }
+    let budget = only_number(2, rest)?;
+    Ok(Leading::Header { budget })
+}
+
 /// What a line says that isn't skipped, by its first word and what follows that.
-#[tactic(auto, unfolding(crate::specs::Reader::line_of, crate::specs::Reader::argument))]
+#[tactic(auto, unfolding(crate::specs::Reader::line_of, crate::specs::Reader::lane_argument))]
 pub fn read_line<'a>(
     alloc: Global,
     last: &mut LastView<'a>,

@@ -6,10 +6,12 @@ use std::alloc::Global;
 use std::sync::Arc;
 use std::test::Fail;
 
-// What is answered to a call in these tests: a store or a root is done, a load finds nothing.
+// What is answered to a call in these tests: most are done, and a load finds nothing.
 fn reply_to(call: &Call) -> Reply {
     match call {
         Call::Store { .. } | Call::Root { .. } => Reply::Done,
+        Call::Unpin { .. } | Call::FlushEnd { .. } | Call::FlushAbort { .. } => Reply::Done,
+        Call::FlushBegin { .. } => Reply::FlushBegun { id: 3, bytes: 136 },
         Call::Purge { .. } => Reply::Purged { keys: 3 },
         Call::Load { .. } => Reply::NotFound,
         Call::Stats => Reply::Counted {
@@ -27,7 +29,8 @@ fn reply_to(call: &Call) -> Reply {
     }
 }
 
-// A script's lines as the journal has them, with these replies; none where the bytes are no script.
+// A script's header and lines as the journal has them, with these replies, and a flush as it was read; none where
+// the bytes are no script.
 fn journal(alloc: Global, bytes: &[u8]) -> Result<Option<String>, Fail> {
     let script = match parse(alloc, bytes) {
         Ok(script) => script,
@@ -36,6 +39,8 @@ fn journal(alloc: Global, bytes: &[u8]) -> Result<Option<String>, Fail> {
     };
     let mut all = String::new(alloc);
     let mut printer = JournalPrinter::new(alloc);
+    let header = printer.print_header(script.budget)?;
+    all.push_str(String::from_utf8(Vec::from_slice(alloc, header)?)?.as_str())?;
     for line in &script.lines {
         let text = match &line.order {
             Order::Event(call) => line_text(alloc, line.lane, call, &reply_to(call))?,
@@ -44,6 +49,10 @@ fn journal(alloc: Global, bytes: &[u8]) -> Result<Option<String>, Fail> {
                 let call = Call::Load { view, key: *key };
                 let text = printer.print(alloc, line.lane, &call, &reply_to(&call))?;
                 Vec::from_slice(alloc, text)?
+            }
+            Order::Flush { slot, workers } => {
+                let lane = line.lane;
+                format!(in alloc; "{lane} flush {slot} {workers}\n")?.into_bytes()
             }
         };
         all.push_str(String::from_utf8(text)?.as_str())?;
@@ -94,6 +103,19 @@ fn scripts_say_these_lines(rt: HostRuntime) -> Result<(), Fail> {
             "1 root 18446744073709551615 = ok\n",
         ),
         ("2 purge 05", "2 purge 5 = ok 3\n"),
+        ("budget 0", "budget 0 = ok\n"),
+        (
+            "# a header\n\n \tbudget 18446744073709551615 = full\r\n3 unpin 007",
+            "budget 18446744073709551615 = ok\n3 unpin 7 = ok\n",
+        ),
+        (
+            "budget 408\n#\n1 flush-begin 04 = full 272 144 408\n1 flush-end 4\n2 flush-abort 4\n",
+            "budget 408 = ok\n1 flush-begin 4 = ok 3 136\n1 flush-end 4 = ok\n2 flush-abort 4 = ok\n",
+        ),
+        (
+            "1 flush 05\n1 flush 5 1\n64 flush 6 00016 = 17",
+            "1 flush 5 1\n1 flush 5 1\n64 flush 6 16\n",
+        ),
         (
             "064 stats",
             "64 stats = cached 1 filling 2 live 3 retired 4 named 5 rows 6 bytes 7 pins 18446744073709551615\n",
@@ -141,6 +163,39 @@ fn other_bytes_are_no_script(rt: HostRuntime) -> Result<(), Fail> {
         ("1 purge x", 1, 3, Kind::Number),
         ("1 purge 5 6", 1, 4, Kind::Surplus),
         ("1 stats 1", 1, 3, Kind::Surplus),
+        ("1 unpin", 1, 3, Kind::Missing),
+        ("1 unpin x", 1, 3, Kind::Number),
+        ("1 unpin 5 6", 1, 4, Kind::Surplus),
+        ("1 flush-begin", 1, 3, Kind::Missing),
+        ("1 flush-begin -", 1, 3, Kind::Number),
+        ("1 flush-begin 5 1", 1, 4, Kind::Surplus),
+        ("1 flush-end", 1, 3, Kind::Missing),
+        ("1 flush-end 5x", 1, 3, Kind::Number),
+        ("1 flush-end 5 6", 1, 4, Kind::Surplus),
+        ("1 flush-abort = 5", 1, 3, Kind::Missing),
+        ("1 flush-abort x", 1, 3, Kind::Number),
+        ("1 flush-abort 5 6", 1, 4, Kind::Surplus),
+        ("1 flush", 1, 3, Kind::Missing),
+        ("1 flush x 0", 1, 3, Kind::Number),
+        ("1 flush 5 x", 1, 4, Kind::Number),
+        ("1 flush 5 18446744073709551616", 1, 4, Kind::Number),
+        ("1 flush 5 0 1", 1, 4, Kind::Range),
+        ("1 flush 5 17", 1, 4, Kind::Range),
+        ("1 flush 5 16 16", 1, 5, Kind::Surplus),
+        ("1 flush-start 5", 1, 2, Kind::Unknown),
+        ("budget", 1, 2, Kind::Missing),
+        ("budget = 5", 1, 2, Kind::Missing),
+        ("budget x", 1, 2, Kind::Number),
+        ("budget 18446744073709551616", 1, 2, Kind::Number),
+        ("budget 5 6", 1, 3, Kind::Surplus),
+        ("budget 1\nbudget 2", 2, 1, Kind::Header),
+        ("budget 1\n#\n1 stats\nbudget", 4, 1, Kind::Header),
+        ("1 stats\nbudget x 5", 2, 1, Kind::Header),
+        ("budget 1\nbudge 2", 2, 1, Kind::Lane),
+        ("Budget 1", 1, 1, Kind::Lane),
+        ("budget=1", 1, 1, Kind::Lane),
+        ("1 budget 5", 1, 2, Kind::Unknown),
+        ("open a", 1, 1, Kind::Lane),
         ("1 store 5", 1, 4, Kind::Missing),
         ("1 store 5 01", 1, 5, Kind::Missing),
         ("1 store 5 0 1", 1, 4, Kind::Key),
@@ -335,6 +390,41 @@ fn refusals_are_printed(rt: HostRuntime) -> Result<(), Fail> {
             Refusal::TooManyPins { most: 64 },
             "1 root 6 = too-many-pins 64\n",
         ),
+        (Refusal::NotPinned { id: 3 }, "1 root 6 = not-pinned 3\n"),
+        (Refusal::NotRooted { slot: 7 }, "1 root 6 = not-rooted 7\n"),
+        (
+            Refusal::NothingCached { slot: 7 },
+            "1 root 6 = nothing-cached 7\n",
+        ),
+        (
+            Refusal::Flushing { slot: 7, id: 3 },
+            "1 root 6 = flushing 7 3\n",
+        ),
+        (
+            Refusal::NotFlushing { slot: 7 },
+            "1 root 6 = not-flushing 7\n",
+        ),
+        (
+            Refusal::Full {
+                used: 272,
+                wanted: 144,
+                limit: 408,
+            },
+            "1 root 6 = full 272 144 408\n",
+        ),
+        (
+            Refusal::Full {
+                used: u64::MAX,
+                wanted: 18_446_744_073_709_551_752,
+                limit: 0,
+            },
+            "1 root 6 = full 18446744073709551615 18446744073709551752 0\n",
+        ),
+        (
+            Refusal::NoCell { limit: 1_048_576 },
+            "1 root 6 = no-cell 1048576\n",
+        ),
+        (Refusal::IdsSpent, "1 root 6 = ids-spent\n"),
     ] {
         let text = line_text(
             alloc,

@@ -2,6 +2,7 @@ ghost use Rattle.std.specs.Prelude.{◌≡◌, ◌++◌, ◌∷◌, [], IfOk, On
 ghost use Rattle.std.specs.Fmt.{decimal};
 ghost use Rattle.std.specs.String.{string_bytes};
 ghost use Rattle.adb_model.specs.Seen.{call_of, counts_of, reply_of, place_of, refusal_of};
+ghost use Rattle.script.specs.Said.{header_of};
 ghost use Rattle.script.specs.Text as texts;
 
 use crate::printed_view::PrintedView;
@@ -97,6 +98,10 @@ fn push_call(
             text.push_str(" ")?;
             push_key(text, &key.0)
         }
+        Call::Unpin { id } => write!(text, "unpin {id}"),
+        Call::FlushBegin { slot } => write!(text, "flush-begin {slot}"),
+        Call::FlushEnd { slot } => write!(text, "flush-end {slot}"),
+        Call::FlushAbort { slot } => write!(text, "flush-abort {slot}"),
         Call::Stats => text.push_str("stats"),
     }
 }
@@ -124,6 +129,18 @@ fn push_refusal(text: &mut String, refusal: Refusal) -> Result<(), AllocError>
             write!(text, " {cleaned}")
         }
         Refusal::TooManyPins { most } => write!(text, "too-many-pins {most}"),
+        Refusal::NotPinned { id } => write!(text, "not-pinned {id}"),
+        Refusal::NotRooted { slot } => write!(text, "not-rooted {slot}"),
+        Refusal::NothingCached { slot } => write!(text, "nothing-cached {slot}"),
+        Refusal::Flushing { slot, id } => write!(text, "flushing {slot} {id}"),
+        Refusal::NotFlushing { slot } => write!(text, "not-flushing {slot}"),
+        Refusal::Full {
+            used,
+            wanted,
+            limit,
+        } => write!(text, "full {used} {wanted} {limit}"),
+        Refusal::NoCell { limit } => write!(text, "no-cell {limit}"),
+        Refusal::IdsSpent => text.push_str("ids-spent"),
     }
 }
 
@@ -168,6 +185,7 @@ fn push_reply(text: &mut String, reply: &Reply) -> Result<(), AllocError>
             text.push_str(" ")?;
             push_account(text, account)
         }
+        Reply::FlushBegun { id, bytes } => write!(text, "ok {id} {bytes}"),
         Reply::Counted { stats } => push_stats(text, stats),
     }
 }
@@ -191,6 +209,20 @@ fn push_line(
     text.push_str("\n")
 }
 
+// Puts the line of a header, if there is one, at the end of a text.
+#[tactic(auto, unfolding(crate::specs::Said::header_of))]
+fn push_header(text: &mut String, budget: Option<u64>) -> Result<(), AllocError>
+    ensures { OnOk result (string_bytes text.new ≡ string_bytes text.old ++ header_of budget) }
+{
+    match budget {
+        None => Ok(()),
+        Some(budget) => {
+            write!(text, "budget {budget} = ok")?;
+            text.push_str("\n")
+        }
+    }
+}
+
 /// Prints the lines of a journal, one after the other.
 ///
 /// It keeps the memory of a line for the next one, and the text of the last view, which isn't made again for
@@ -208,6 +240,15 @@ impl JournalPrinter {
             line: String::new(alloc),
             last: PrintedView::new(alloc),
         }
+    }
+
+    /// The journal's line of a script's header, which says its budget; nothing where there is no header.
+    pub fn print_header(&mut self, budget: Option<u64>) -> Result<&[u8], AllocError>
+        ensures { IfOk result (λ line. line.now ≡ header_of budget) }
+    {
+        self.line.clear();
+        push_header(&mut self.line, budget)?;
+        Ok(self.line.as_bytes())
     }
 
     /// The journal's line of an event, as [`line_text`] gives it. After want of memory the next line is printed

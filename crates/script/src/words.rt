@@ -1,5 +1,6 @@
 ghost use Rattle.std.specs.Prelude.{◌≡◌, ◌==◌, ◌∷◌, not, length, slice_index, MatchOption, []};
 ghost use Rattle.std.specs.List.{position_or_len, prefix_len, before_first, after_first};
+ghost use Rattle.script.specs.Reader as reader;
 ghost use Rattle.script.specs.Words as texts;
 
 use memchr::{memchr, memchr2};
@@ -61,6 +62,13 @@ pub fn halves(word: &[u8], separator: u8) -> (&[u8], &[u8])
     let (front, _) = word.split_at(at);
     let (_, back) = word.split_at(at + 1);
     (front, back)
+}
+
+/// Whether a line whose first word this is is a header, or would be one at the front of the script.
+pub fn begins_header(word: &[u8]) -> bool
+    ensures { result ≡ reader.is_header word.now }
+{
+    word == b"budget".as_slice()
 }
 
 /// Whether a line whose first word this is counts as a comment.

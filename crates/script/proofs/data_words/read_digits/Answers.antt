@@ -9,5 +9,6 @@ returns-then-word-clause-too_long c =
       | else-are_pairs w ↦ λ told. absurd (cc (told, w.error-is))
     ]
 
-pub returns-in-Ok-clause-data : goal.returns-in-Ok-clause-data
-returns-in-Ok-clause-data c = digits_fit c.args.word.now c.in-Ok.bytes.items c.in-Ok.ensures.ok c.if-word-lt2.false c.if-word.false
+pub returns-in-Some-clause-data : goal.returns-in-Some-clause-data
+returns-in-Some-clause-data c =
+    let read = rw c.in-Some.is at c.in_ok-bytes.ensures in digits_fit c.args.word.now c.in-Some.bytes.items read c.if-word-lt2.false c.if-word.false

@@ -1,4 +1,4 @@
-use Rattle.std.proofs.Common.{◌≡◌, ◌+◌, ◌++◌, ◌∷◌, [], List, map, take, refl, sym, subst, arith}
+use Rattle.std.proofs.Common.{◌+◌, [], List, map, take, refl, sym, subst, arith}
 use Rattle.adb_model.specs.declared.call.Reply.{Reply}
 use Rattle.replay.specs.Standing.{HasMade, asked}
 use Rattle.replay.proofs.Turns.{one_made, first_made, nothing_made, all_made, kept_made, always}
