@@ -1,0 +1,4 @@
+pub mod Doubles
+pub mod Faults
+pub mod Files
+pub mod Kept
