@@ -1,0 +1,10 @@
+pub mod Alone
+pub mod Entries
+pub mod Faults
+pub mod Manifests
+pub mod Numbers
+pub mod Rising
+pub mod Sequences
+pub mod Skipping
+pub mod Slots
+pub mod Writing

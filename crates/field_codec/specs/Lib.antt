@@ -1,0 +1,3 @@
+pub mod Manifest
+pub mod Reading
+pub mod Written

@@ -1,0 +1,33 @@
+//! Manifests of snapshots: which slots a snapshot has, with the id and the length of each one's storage.
+//!
+//! Numbers are little-endian, of eight bytes.
+//!
+//! | Part | Bytes | Written as | Read as |
+//! |---|---|---|---|
+//! | number of slots | 8 | as is | as is |
+//! | for each slot: the slot, its number of storages, that storage's id, its length | 32 | by rising slot, one storage | in any order, each slot once, one storage |
+//! | write version | 8 | zeros | skipped |
+//! | slot of the snapshot | 8 | as is | as is |
+//! | opaque | 104 | zeros | skipped |
+//! | a count, and that many numbers | 8 and 8 for each | 0 | skipped; the file may end right before |
+//! | a count, and that many pairs of a number and 32 bytes | 8 and 40 for each | 0 | skipped; the file may end right before |
+//!
+//! `specs/Manifest.antt` says which bytes are a manifest, by concatenation of its parts; [`decode_fields`] and
+//! [`encode_fields`] are proved to agree with it both ways. No number in a file takes memory before the bytes that
+//! it speaks of are read.
+#![tactic(auto)]
+
+mod fault;
+mod fields;
+mod laws;
+mod read;
+mod write;
+
+pub use fault::FieldFault;
+pub use fields::{FieldStorage, Fields};
+pub use laws::{manifests_are_read, manifests_have_one_reading, written_manifests_are_read};
+pub use read::decode_fields;
+pub use write::encode_fields;
+
+#[cfg(test)]
+mod tests;
