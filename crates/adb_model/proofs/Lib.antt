@@ -30,9 +30,11 @@ pub mod ShrinkAbortKeeps
 pub mod ShrinkRows
 pub mod ShrinkBeginKeeps
 pub mod ShrinkEndKeeps
+pub mod Retiring
 pub mod ReclaimKeeps
 pub mod StepKeeps
 pub mod RootsKept
+pub mod RisingBy
 pub mod Rising
 pub mod OpenedStores
 pub mod NoReturn
@@ -62,6 +64,14 @@ pub mod OwnPins
 pub mod FlushesStay
 pub mod RowBytes
 pub mod NamedRows
+pub mod NamesLeave
+pub mod ShadowedPairs
+pub mod SpentPairs
+pub mod LiveStorages
+pub mod StoragesRetire
+pub mod StoragesRetireCounts
+pub mod CrowdedKeys
+pub mod ReclaimsGoOn
 mod PlayedValues
 mod PlayedFirst
 mod PlayedFurther

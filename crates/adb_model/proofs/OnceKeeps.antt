@@ -47,7 +47,7 @@ abbrev Apart : Pair → Pair → Type 0
 Apart p q = p.slot ≡ q.slot → p.key ≢ q.key
 
 -- storages that change keep their rows where they are being filled
-rows_map : (m n : State) (f : Storage → Storage) → ((u : Storage) → IsTrue (is_filling (f u)) → IsFalse (among (f u).slot n.flushed) → IsTrue (is_filling u) × IsFalse (among u.slot m.flushed) × ((f u).rows ≡ u.rows)) → All (RowsOnce m) m.storages → All (RowsOnce n) (map f m.storages)
+pub rows_map : (m n : State) (f : Storage → Storage) → ((u : Storage) → IsTrue (is_filling (f u)) → IsFalse (among (f u).slot n.flushed) → IsTrue (is_filling u) × IsFalse (among u.slot m.flushed) × ((f u).rows ≡ u.rows)) → All (RowsOnce m) m.storages → All (RowsOnce n) (map f m.storages)
 rows_map m n f same rows = All-map (RowsOnce n) f m.storages (λ k d lt fill un.
     let w = same (get_or m.storages k d) fill un in
     subst (λ rs. AllPairs (λ (r q : Row). r.key ≢ q.key) rs) (sym w.2) (rows k d lt w.0 w.1))
@@ -75,13 +75,13 @@ module _ (m : State) (h : IsSound m) (o : IsOnce m) where
         )) o.rows;
   }
 
-once_retired : (m : State) → IsOnce m → IsOnce (retire_unnamed m)
+pub once_retired : (m : State) → IsOnce m → IsOnce (retire_unnamed m)
 once_retired m o = record {
   named = o.named;
   rows = rows_map m (retire_unnamed m) (retired m) (λ u fill un. (sym (reclaim.filling_same m u) ∙ fill, subst (λ n. IsFalse (among n m.flushed)) (reclaim.slot_same m u) un, reclaim.rows_same m u)) o.rows;
 }
 
-once_dropped : (m : State) (test : Pair → Bool) → IsOnce m → IsOnce (without_names test m)
+pub once_dropped : (m : State) (test : Pair → Bool) → IsOnce m → IsOnce (without_names test m)
 once_dropped m test o = record { named = AllPairs-filter Apart (λ p. not (test p)) m.named o.named; rows = o.rows }
 
 once_reclaimed : (keys : List (List ℕ)) (m : State) → IsOnce m → IsOnce (reclaimed keys m)

@@ -1,96 +1,40 @@
 -- Numbers put in rising order, each once.
-use Rattle.std.proofs.Common.{◌≡◌, ◌≢◌, ℕ, ◌<◌, eqb, ltb, Bool, true, false, List, [], ◌∷◌, AllPairs, Contains, fold, nat_cmp, refl, sym, ◌∙◌, subst, inl, inr, ◌⊎◌, arith}
-use Rattle.std.proofs.lemmas.Bool.{true≢false, eqb-true, eq-eqb, ltb-true, ltb-false}
-use Rattle.std.proofs.lemmas.List.Elements.{All-cons, All-contains, Contains-get_or}
+use Rattle.std.proofs.Common.{◌≡◌, ℕ, ◌<◌, eqb, ltb, cond, Bool, true, false, List, [], ◌∷◌, AllPairs, Contains, nat_cmp, refl, sym, subst, inl, inr, arith}
+use Rattle.std.proofs.lemmas.Bool.{ltb-true}
+use Rattle.std.proofs.lemmas.List.Elements.{All-contains}
 use Rattle.std.specs.List.{dedup, IsAllAdjacentAnswer}
 use Rattle.std.specs.Bool.{OnTrue}
+use Rattle.std.specs.declared.cmp.Ordering.TheVariants.{Less, Equal, Greater}
+use Rattle.std.specs.FinMap.{nat_cmp-IsAntisymmetric}
+use Rattle.std.proofs.lemmas.Cmp.{nat_cmp_total}
 use Rattle.std.specs.List.Sorted.{IsSorted, IsPermutation, IsStrictlyIncreasing}
-use Rattle.std.proofs.lemmas.List.Kept.{AllPairs-cons, AllPairs-from_increasing, Contains-dedup_nat, Contains-from_dedup}
+use Rattle.std.proofs.lemmas.List.Kept.{AllPairs-from_increasing, Contains-dedup_nat, Contains-from_dedup}
 use Rattle.std.proofs.lemmas.List.Sorted.{Contains-permutation, IsPermutation-sym}
 use Rattle.std.proofs.lemmas.Map.Keys.{IsStrictlyIncreasing-dedup}
-use Rattle.adb_model.specs.Lists.{placed, rising}
+use Rattle.adb_model.specs.Lists.{rising}
 use Rattle.adb_model.proofs.Members.{contains_here, contains_next, contains_cases, contains_none}
-use Rattle.adb_model.proofs.Pairs.{pairs_none, pairs_head, pairs_tail}
+use Rattle.adb_model.proofs.Pairs.{pairs_head, pairs_tail}
+use Rattle.adb_model.proofs.RisingBy as ordered
 
 abbrev Rise : List ℕ → Type 0
 Rise ns = AllPairs (λ a b. a < b) ns
 
--- what a number's place is in a rising list: before it, at it, behind it
-at_place : (P : List ℕ → Type 0) (x y : ℕ) (ys : List ℕ) → (x < y → P (x ∷ y ∷ ys)) → (x ≡ y → P (y ∷ ys)) → (y < x → P (y ∷ placed nat_cmp x ys)) → P (placed nat_cmp x (y ∷ ys))
-at_place P x y ys before at behind = by (ltb x y) (eqb x y) refl refl
+less_from : (a b : ℕ) → nat_cmp a b ≡ Less → a < b
+less_from a b e = ltb-true a b (by (ltb a b) (eqb a b) e)
   where
-    by : (b c : Bool) → ltb x y ≡ b → eqb x y ≡ c → P (placed nat_cmp x (y ∷ ys))
-    by true c e f = rw (e) (before (ltb-true x y e))
-    by false true e f = rw (e, f) (at (eqb-true x y f))
-    by false false e f = rw (e, f) (behind (let le = ltb-false x y e in let ne : x ≢ y = λ g. true≢false (sym (eq-eqb x y g) ∙ f) in omega arith))
-
-into_placed : (x : ℕ) (ys : List ℕ) → Contains (placed nat_cmp x ys) x
-into_placed x [] = contains_here x []
-into_placed x (y ∷ ys) = at_place (λ l. Contains l x) x y ys (λ lt. contains_here x (y ∷ ys)) (λ e. (0, omega arith, sym e)) (λ gt. contains_next y x (placed nat_cmp x ys) (into_placed x ys))
-
-still_placed : (x z : ℕ) (ys : List ℕ) → Contains ys z → Contains (placed nat_cmp x ys) z
-still_placed x z [] c = absurd (contains_none z c)
-still_placed x z (y ∷ ys) c =
-    at_place (λ l. Contains l z) x y ys (λ lt. contains_next x z (y ∷ ys) c) (λ e. c)
-    (λ gt. elim (contains_cases y z ys c) [ inl e ↦ (0, omega arith, e) | inr d ↦ contains_next y z (placed nat_cmp x ys) (still_placed x z ys d) ])
-
-from_placed : (x z : ℕ) (ys : List ℕ) → Contains (placed nat_cmp x ys) z → (x ≡ z) ⊎ Contains ys z
-from_placed x z [] c = contains_cases x z [] c
-from_placed x z (y ∷ ys) c =
-    at_place (λ l. Contains l z → (x ≡ z) ⊎ Contains (y ∷ ys) z) x y ys
-    (λ lt d. contains_cases x z (y ∷ ys) d)
-    (λ e d. inr d)
-    (λ gt d. elim (contains_cases y z (placed nat_cmp x ys) d) [
-      | inl e ↦ inr (0, omega arith, e)
-      | inr f ↦ elim (from_placed x z ys f) [ inl e ↦ inl e | inr g ↦ inr (contains_next y z ys g) ]
-    ])
-    c
-
-rise_placed : (x : ℕ) (ys : List ℕ) → Rise ys → Rise (placed nat_cmp x ys)
-rise_placed x [] up = AllPairs-cons (λ a b. a < b) x [] (λ k d lt. let none : k < 0 = lt in absurd (omega arith)) (pairs_none (λ a b. a < b))
-rise_placed x (y ∷ ys) up =
-    at_place Rise x y ys
-    (λ lt. AllPairs-cons (λ a b. a < b) x (y ∷ ys) (All-cons (λ b. x < b) y ys lt (λ k d in'. omega (arith, pairs_head (λ a b. a < b) y ys up k d in'))) up)
-    (λ e. up)
-    (λ gt. AllPairs-cons (λ a b. a < b) y (placed nat_cmp x ys)
-    (λ k d in'. elim (from_placed x _ ys (Contains-get_or (placed nat_cmp x ys) k d in')) [
-      | inl e ↦ subst (λ n. y < n) e gt
-      | inr c ↦ All-contains (λ b. y < b) ys _ (pairs_head (λ a b. a < b) y ys up) c
-    ])
-    (rise_placed x ys (pairs_tail (λ a b. a < b) y ys up)))
-
-still_onto : (xs ys : List ℕ) (z : ℕ) → Contains ys z → Contains (fold (λ ys x. placed nat_cmp x ys) ys xs) z
-still_onto [] ys z c = c
-still_onto (x ∷ xs) ys z c = still_onto xs (placed nat_cmp x ys) z (still_placed x z ys c)
-
-into_onto : (xs ys : List ℕ) (z : ℕ) → Contains xs z → Contains (fold (λ ys x. placed nat_cmp x ys) ys xs) z
-into_onto [] ys z c = absurd (contains_none z c)
-into_onto (x ∷ xs) ys z c =
-    elim (contains_cases x z xs c) [
-      | inl e ↦ still_onto xs (placed nat_cmp x ys) z (subst (Contains (placed nat_cmp x ys)) e (into_placed x ys))
-      | inr d ↦ into_onto xs (placed nat_cmp x ys) z d
-    ]
-
-from_onto : (xs ys : List ℕ) (z : ℕ) → Contains (fold (λ ys x. placed nat_cmp x ys) ys xs) z → Contains xs z ⊎ Contains ys z
-from_onto [] ys z c = inr c
-from_onto (x ∷ xs) ys z c =
-    elim (from_onto xs (placed nat_cmp x ys) z c) [
-      | inl d ↦ inl (contains_next x z xs d)
-      | inr d ↦ elim (from_placed x z ys d) [ inl e ↦ inl (0, omega arith, e) | inr f ↦ inr f ]
-    ]
-
-rise_onto : (xs ys : List ℕ) → Rise ys → Rise (fold (λ ys x. placed nat_cmp x ys) ys xs)
-rise_onto [] ys up = up
-rise_onto (x ∷ xs) ys up = rise_onto xs (placed nat_cmp x ys) (rise_placed x ys up)
+    by : (b c : Bool) → cond b Less (cond c Equal Greater) ≡ Less → b ≡ true
+    by true c f = refl
+    by false true f = absurd cc
+    by false false f = absurd cc
 
 pub into_rising : (xs : List ℕ) (z : ℕ) → Contains xs z → Contains (rising nat_cmp xs) z
-into_rising xs z c = into_onto xs [] z c
+into_rising xs z c = ordered.into_rising nat_cmp nat_cmp_total nat_cmp-IsAntisymmetric xs z c
 
 pub from_rising : (xs : List ℕ) (z : ℕ) → Contains (rising nat_cmp xs) z → Contains xs z
-from_rising xs z c = elim (from_onto xs [] z c) [ inl d ↦ d | inr d ↦ absurd (contains_none z d) ]
+from_rising xs z c = ordered.from_rising nat_cmp nat_cmp_total xs z c
 
 pub rising_rises : (xs : List ℕ) → AllPairs (λ a b. a < b) (rising nat_cmp xs)
-rising_rises xs = rise_onto xs [] (pairs_none (λ a b. a < b))
+rising_rises xs i j d lt within = less_from _ _ (ordered.rising_rises nat_cmp nat_cmp_total xs i j d lt within)
 
 -- two rising lists with the same members are one
 one_rise : (xs ys : List ℕ) → Rise xs → Rise ys → ((z : ℕ) → Contains xs z → Contains ys z) → ((z : ℕ) → Contains ys z → Contains xs z) → xs ≡ ys

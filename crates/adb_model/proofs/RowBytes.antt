@@ -31,7 +31,7 @@ rows_take [] = omega arith
 rows_take (r ∷ rows) = omega (arith, sum_by-cons (λ (r : Row). size r.account) r rows, least_size r.account, rows_take rows)
 
 -- storages that change keep their rows and bytes
-mapped : (f : Storage → Storage) → ((u : Storage) → (f u).rows ≡ u.rows) → ((u : Storage) → (f u).bytes ≡ u.bytes) → (us : List Storage) → All Enough us → All Enough (map f us)
+pub mapped : (f : Storage → Storage) → ((u : Storage) → (f u).rows ≡ u.rows) → ((u : Storage) → (f u).bytes ≡ u.bytes) → (us : List Storage) → All Enough us → All Enough (map f us)
 mapped f rows bytes us all = All-map Enough f us (λ k d lt. omega (arith, all k d lt, ap length (rows (get_or us k d)), bytes (get_or us k d)))
 
 module _ (m : State) (o : HaveBytes m) where

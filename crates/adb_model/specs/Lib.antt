@@ -29,3 +29,4 @@ pub mod Inside
 pub mod Seen
 pub mod RowBytes
 pub mod Passing
+pub mod Cleaning

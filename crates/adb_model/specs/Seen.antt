@@ -1,5 +1,5 @@
 -- What the program's values stand for in the plain machine: an `Arc` stands for what it holds, a key for its bytes.
-use Rattle.std.specs.Prelude.{ℕ, List, map}
+use Rattle.std.specs.Prelude.{ℕ, List, map, option_map}
 use Rattle.std.specs.declared.sync.Arc.{Arc}
 use Rattle.std.specs.Global.{Global}
 use Rattle.adb_model.specs.Account.{Account}
@@ -45,9 +45,13 @@ call_of (calls.Root slot) = machine.Root slot
 call_of (calls.Purge slot) = machine.Purge slot
 call_of (calls.Load view key) = machine.Load view key.0
 call_of (calls.Unpin id) = machine.Unpin id
+call_of (calls.Lease max_root) = machine.Lease max_root
+call_of (calls.EndLease max_root) = machine.EndLease max_root
 call_of (calls.FlushBegin slot) = machine.FlushBegin slot
 call_of (calls.FlushEnd slot) = machine.FlushEnd slot
 call_of (calls.FlushAbort slot) = machine.FlushAbort slot
+call_of (calls.Raise upto) = machine.Raise upto
+call_of (calls.Reclaim after most) = machine.Reclaim (option_map (λ k. k.0) after) most
 call_of calls.Stats = machine.Stats
 
 -- the machine's place
@@ -63,6 +67,7 @@ refusal_of (refusals.Rooted slot) = machine.Rooted slot
 refusal_of (refusals.ViewTooOld max_root cleaned) = machine.ViewTooOld max_root cleaned
 refusal_of (refusals.TooManyPins most) = machine.TooManyPins most
 refusal_of (refusals.NotPinned id) = machine.NotPinned id
+refusal_of (refusals.NotLeased max_root) = machine.NotLeased max_root
 refusal_of (refusals.NotRooted slot) = machine.NotRooted slot
 refusal_of (refusals.NothingCached slot) = machine.NothingCached slot
 refusal_of (refusals.Flushing slot id) = machine.Flushing slot id
@@ -70,6 +75,8 @@ refusal_of (refusals.NotFlushing slot) = machine.NotFlushing slot
 refusal_of (refusals.Full used wanted limit) = machine.Full used wanted limit
 refusal_of (refusals.NoCell limit) = machine.NoCell limit
 refusal_of refusals.IdsSpent = machine.IdsSpent
+refusal_of (refusals.PastRoot upto newest) = machine.PastRoot upto newest
+refusal_of (refusals.Leased upto least) = machine.Leased upto least
 
 -- the machine's counts
 abbrev pub counts_of : Stats → machine.Counts
@@ -92,6 +99,9 @@ reply_of (replies.Purged keys) = machine.Purged keys
 reply_of replies.NotFound = machine.NotFound
 reply_of (replies.Found slot place account) = machine.Found slot (place_of place) account.value
 reply_of (replies.FlushBegun id bytes) = machine.FlushBegun id bytes
+reply_of (replies.Raised cleaned) = machine.Raised cleaned
+reply_of (replies.Reclaimed key) = machine.Reclaimed key.0
+reply_of replies.NothingLeft = machine.NothingLeft
 reply_of (replies.Counted stats) = machine.Counted (counts_of stats)
 
 -- the machine's event

@@ -32,6 +32,14 @@ pub enum Call {
     Unpin {
         id: u64,
     },
+    /// Hold on to the views from a greatest root on: what they see isn't cleaned away.
+    Lease {
+        max_root: u64,
+    },
+    /// Let go of these views.
+    EndLease {
+        max_root: u64,
+    },
     /// Begin a flush: take a storage that the slot's cached accounts are to be written to.
     FlushBegin {
         slot: Slot,
@@ -43,6 +51,15 @@ pub enum Call {
     /// Give up a flush, and its storage.
     FlushAbort {
         slot: Slot,
+    },
+    /// Raise the slot up to which is cleaned.
+    Raise {
+        upto: Slot,
+    },
+    /// Drop what nobody can need any more of the first so many crowded keys above a key, or of all.
+    Reclaim {
+        after: Option<Key>,
+        most: usize,
     },
     /// Count what the store has.
     Stats,
@@ -66,12 +83,14 @@ pub enum Refusal {
     RootOrder { slot: Slot, newest: Slot },
     /// A purge of a slot that is a root.
     Rooted { slot: Slot },
-    /// A load at a view whose roots end below the slot up to which was cleaned.
+    /// A load at a view, or a lease of views, whose roots end below the slot up to which was cleaned.
     ViewTooOld { max_root: u64, cleaned: Slot },
     /// A load by a pass that has as many pins as a pass may have.
     TooManyPins { most: u64 },
     /// The pass has no pin of this storage.
     NotPinned { id: u64 },
+    /// The pass has no lease of the views from this greatest root on.
+    NotLeased { max_root: u64 },
     /// A flush of a slot that is no root.
     NotRooted { slot: Slot },
     /// A flush of a slot without stores, or of one that is flushed.
@@ -86,6 +105,10 @@ pub enum Refusal {
     NoCell { limit: u64 },
     /// No id is left for one more storage.
     IdsSpent,
+    /// A raise above the newest root, or where there is no root.
+    PastRoot { upto: Slot, newest: Option<Slot> },
+    /// A raise above the least greatest root of all leases.
+    Leased { upto: Slot, least: u64 },
 }
 
 /// What the store has at one time.
@@ -135,6 +158,16 @@ pub enum Reply {
         id: u64,
         bytes: u64,
     },
+    /// So far is cleaned now.
+    Raised {
+        cleaned: Slot,
+    },
+    /// The crowded keys up to this one were looked at.
+    Reclaimed {
+        key: Key,
+    },
+    /// No crowded key was left.
+    NothingLeft,
     /// What the store has.
     Counted {
         stats: Stats,
@@ -169,9 +202,20 @@ impl Call {
                 key: *key,
             }),
             Call::Unpin { id } => Ok(Call::Unpin { id: *id }),
+            Call::Lease { max_root } => Ok(Call::Lease {
+                max_root: *max_root,
+            }),
+            Call::EndLease { max_root } => Ok(Call::EndLease {
+                max_root: *max_root,
+            }),
             Call::FlushBegin { slot } => Ok(Call::FlushBegin { slot: *slot }),
             Call::FlushEnd { slot } => Ok(Call::FlushEnd { slot: *slot }),
             Call::FlushAbort { slot } => Ok(Call::FlushAbort { slot: *slot }),
+            Call::Raise { upto } => Ok(Call::Raise { upto: *upto }),
+            Call::Reclaim { after, most } => Ok(Call::Reclaim {
+                after: *after,
+                most: *most,
+            }),
             Call::Stats => Ok(Call::Stats),
         }
     }

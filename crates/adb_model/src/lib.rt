@@ -6,6 +6,7 @@
 
 mod account;
 mod call;
+mod cleaning;
 mod counting;
 mod effects;
 mod flushing;
@@ -18,6 +19,10 @@ mod view;
 
 pub use account::{Account, Head, MAX_DATA_LEN, TooLong};
 pub use call::{Call, Event, Place, Refusal, Reply, Stats};
+pub use cleaning::{
+    crowded_keys_follow, live_storages_stand, names_leave, reclaims_are_sound, reclaims_go_on,
+    shadowed_pairs_leave, spent_pairs_leave, unnamed_storages_retire,
+};
 pub use counting::{counts_are_bounded, rows_have_bytes};
 pub use effects::{
     cached_pairs_are_counted, histories_go_on, last_stores_follow, only_roots_are_flushed,

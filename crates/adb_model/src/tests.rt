@@ -151,6 +151,20 @@ fn a_copied_call_shares_its_account(rt: HostRuntime) -> Result<(), Fail> {
     assert!(rt; matches!(&root, Call::Root { slot: 5 }));
     let purge = Call::Purge { slot: 5 }.try_copy(alloc)?;
     assert!(rt; matches!(&purge, Call::Purge { slot: 5 }));
+    let lease = Call::Lease { max_root: 7 }.try_copy(alloc)?;
+    assert!(rt; matches!(&lease, Call::Lease { max_root: 7 }));
+    let end = Call::EndLease { max_root: 7 }.try_copy(alloc)?;
+    assert!(rt; matches!(&end, Call::EndLease { max_root: 7 }));
+    let raise = Call::Raise { upto: 5 }.try_copy(alloc)?;
+    assert!(rt; matches!(&raise, Call::Raise { upto: 5 }));
+    let reclaim = Call::Reclaim {
+        after: Some(key(1)),
+        most: 256,
+    };
+    match reclaim.try_copy(alloc)? {
+        Call::Reclaim { after, most } => assert_eq!(rt; (after, most), (Some(key(1)), 256)),
+        _ => assert!(rt; false, "another call"),
+    }
     let stats = Call::Stats.try_copy(alloc)?;
     assert!(rt; matches!(&stats, Call::Stats));
     Ok(())
