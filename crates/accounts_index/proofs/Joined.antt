@@ -94,7 +94,7 @@ length-piece (b ∷ bins) zero d lt = omega (arith, length-append b (joined bins
 length-piece (b ∷ bins) (suc k) d lt = omega (arith, length-append b (joined bins), length-piece bins k d (omega arith))
 
 -- the bin of a key, as it is read
-module _ (index : Index) (bins : List Index) (view : joined bins ≡ index) (all : AreBins bins) (key : List ℕ) (number : ℕ) (is : number ≡ bin_of key) (within : number < 81919) (bin : Index) (read : bin ≡ get_or bins number bin) where
+module _ (index : Index) (bins : List Index) (view : joined bins ≡ index) (all : AreBins bins) (key : List ℕ) (number : ℕ) (is : number ≡ bin_of key) (within : number < 81920) (bin : Index) (read : bin ≡ get_or bins number bin) where
   in_range : number < length bins
   in_range = omega (arith, all.every_number)
 
@@ -171,3 +171,11 @@ joined_empty (bin ∷ bins) empty = rw (empty 0 bin (omega arith)) (joined_empty
 pub AreUsed_joined : (bins : List Index) → All AreUsed bins → AreUsed (joined bins)
 AreUsed_joined [] used k d lt = absurd (omega arith)
 AreUsed_joined (bin ∷ bins) used k d lt = All-append (λ e. e.1 ≢ nothing) bin (joined bins) (used 0 bin (omega arith)) (AreUsed_joined bins (λ k d lt. used (suc k) d (omega arith))) k d lt
+
+pub AreBins_empty : (bins : List Index) → length bins ≡ 81920 → All (λ bin. bin ≡ []) bins → AreBins bins
+AreBins_empty bins every empty = record {
+  every_number = every;
+  numbered = λ k d lt. subst (HasNumber k) (sym (empty k d lt)) (λ i e h. absurd (omega (arith, h)));
+  used = λ k d lt. subst AreUsed (sym (empty k d lt)) (λ i e h. absurd (omega (arith, h)));
+  ordered = λ k d lt. subst IsOrdered (sym (empty k d lt)) (λ i j e h within. absurd (omega (arith, h, within)));
+}

@@ -2,8 +2,11 @@ pub mod Keys
 pub mod Used
 pub mod Lookups
 pub mod Searches
+pub mod Grouped
 pub mod Joined
+pub mod Lists
 pub mod Ordered
 pub mod Changes
 pub mod Walks
 pub mod Onward
+pub mod Edited

@@ -1,14 +1,16 @@
 -- What comes after a key in several bins, one after the other.
-use Rattle.std.proofs.Common.{◌≡◌, ℕ, zero, suc, ◌+◌, ◌-◌, ◌<◌, List, [], ◌∷◌, ◌++◌, length, take, drop, get_or, map, Bool, false, Option, Some, None, option_map, nat_lt, All, ◌&&◌, refl, sym, ap, ◌∙◌, arith, add-one, append_assoc, drop-cons}
+use Rattle.std.proofs.Common.{◌≡◌, ℕ, zero, suc, ◌+◌, ◌/◌, ◌%◌, ◌<◌, List, [], ◌∷◌, ◌++◌, length, take, drop, get_or, map, Bool, false, Option, Some, None, option_map, nat_lt, All, ◌&&◌, refl, sym, ap, ◌∙◌, arith, add-one, append_assoc, drop-cons}
 use Rattle.std.specs.List.{filter, find}
 use Rattle.std.specs.Option.{option_or}
 use Rattle.std.proofs.lemmas.List.Folds.{find-append}
 use Rattle.std.proofs.lemmas.List.Elements.{filter-append}
-use Rattle.accounts_index.specs.Bins.{joined, bin_of, start_of, AreBins}
+use Rattle.std.specs.declared.vec.Vec.{Vec}
+use Rattle.std.proofs.lemmas.Grind.{flat_map-append}
+use Rattle.accounts_index.specs.Bins.{joined, bin_of, start_of, bins_in, all_bins, AreBins, AreGroups}
 use Rattle.accounts_index.specs.Index.{Index, Kept, is_above, is_crowded, key_after, crowded_after}
 use Rattle.std.specs.Ordering.{is_lt}
 use Rattle.accounts_index.proofs.Keys.{less_turned, lower_key}
-use Rattle.accounts_index.proofs.Walks.{take_rest}
+use Rattle.accounts_index.proofs.Grouped.{joined_in, drop-groups}
 
 option_map-or : {A B : Type 0} (f : A → B) (x y : Option A) → option_map f (option_or x y) ≡ option_or (option_map f x) (option_map f y)
 option_map-or f None y = refl
@@ -34,20 +36,30 @@ module _ (after : Option (List ℕ)) where
       let p : List ℕ × Kept → Bool = λ e. is_above after e.0 && is_crowded e.1.versions in
       ap (map (λ e. e.0)) (filter-append p xs ys) ∙ map-append (λ e. e.0) (filter p xs) (filter p ys)
 
-  module _ (bins : List Index) (i : ℕ) (lt : i < length bins) (bin : Index) (read : bin ≡ get_or bins i bin) where
-    joined-drop : joined (drop i bins) ≡ bin ++ joined (drop (i + 1) bins)
-    joined-drop =
-        ap joined (drop-cons bins i bin lt) ∙ ap (λ b. b ++ joined (drop (suc i) bins)) (sym read)
-        ∙ ap (λ n. bin ++ joined (drop n bins)) (sym (add-one i))
+  -- keys of which some come first
+  module _ (first rest whole : Index) (split : whole ≡ first ++ rest) where
+    pub key_after-split : key_after whole after ≡ option_or (key_after first after) (key_after rest after)
+    key_after-split = ap (λ index. key_after index after) split ∙ key_after-append first rest
 
-    pub key_after-next : key_after (joined (drop i bins)) after ≡ option_or (key_after bin after) (key_after (joined (drop (i + 1) bins)) after)
-    key_after-next = ap (λ index. key_after index after) joined-drop ∙ key_after-append bin (joined (drop (i + 1) bins))
+    pub crowded_after-split : (most : ℕ) (found : List (List ℕ)) → take most (take most (found ++ crowded_after first after) ++ crowded_after rest after) ≡ take most (found ++ crowded_after whole after)
+    crowded_after-split most found =
+        take-append_take most (found ++ crowded_after first after) (crowded_after rest after)
+        ∙ ap (take most) (append_assoc found (crowded_after first after) (crowded_after rest after)
+        ∙ ap (λ l. found ++ l) (sym (ap (λ index. crowded_after index after) split ∙ crowded_after-append first rest)))
 
-    pub crowded_after-next : (most : ℕ) (found : List (List ℕ)) → take most (take most (found ++ crowded_after bin after) ++ crowded_after (joined (drop (i + 1) bins)) after) ≡ take most (found ++ crowded_after (joined (drop i bins)) after)
-    crowded_after-next most found =
-        take-append_take most (found ++ crowded_after bin after) (crowded_after (joined (drop (i + 1) bins)) after)
-        ∙ ap (take most) (append_assoc found (crowded_after bin after) (crowded_after (joined (drop (i + 1) bins)) after)
-        ∙ ap (λ l. found ++ l) (sym (ap (λ index. crowded_after index after) joined-drop ∙ crowded_after-append bin (joined (drop (i + 1) bins)))))
+-- the keys of a bin, and of all after it
+pub joined-drop : (bins : List Index) (i : ℕ) → i < length bins → (bin : Index) → bin ≡ get_or bins i bin → joined (drop i bins) ≡ bin ++ joined (drop (i + 1) bins)
+joined-drop bins i lt bin read =
+    ap joined (drop-cons bins i bin lt) ∙ ap (λ b. b ++ joined (drop (suc i) bins)) (sym read)
+    ∙ ap (λ n. bin ++ joined (drop n bins)) (sym (add-one i))
+
+-- the keys of a group, and of all after it
+pub groups-drop : {B : Type 0} (groups : List (Vec Index B)) (i : ℕ) → i < length groups → (group : Vec Index B) → group ≡ get_or groups i group → joined (all_bins (drop i groups)) ≡ joined group.items ++ joined (all_bins (drop (i + 1) groups))
+groups-drop groups i lt group read =
+    ap (λ l. joined (all_bins l)) (drop-cons groups i group lt) ∙ ap (λ g. joined (bins_in g.items ++ all_bins (drop (suc i) groups))) (sym read)
+    ∙ flat_map-append (λ bin. bin) (bins_in group.items) (all_bins (drop (suc i) groups))
+    ∙ ap (λ l. l ++ joined (all_bins (drop (suc i) groups))) (joined_in group.items)
+    ∙ ap (λ n. joined group.items ++ joined (all_bins (drop n groups))) (sym (add-one i))
 
 -- no key of an earlier bin is above
 not_above_before : (key q : List ℕ) → bin_of q < bin_of key → is_above (Some key) q ≡ false
@@ -83,20 +95,26 @@ module _ (key : List ℕ) where
   earlier_bins bins all k d lt in_range j e within = omega (arith, all.numbered k d in_range j e within)
 
 -- the bins from the start on have all keys above
-module _ (index : Index) (bins : List Index) (view : joined bins ≡ index) (all : AreBins bins) (after : Option (List ℕ)) where
-  after_start : (key_after (joined (drop (start_of after) bins)) after ≡ key_after index after) × (crowded_after (joined (drop (start_of after) bins)) after ≡ crowded_after index after)
-  after_start = rw (← view) (from after)
-    where
-      from : (after : Option (List ℕ)) → (key_after (joined (drop (start_of after) bins)) after ≡ key_after (joined bins) after) × (crowded_after (joined (drop (start_of after) bins)) after ≡ crowded_after (joined bins) after)
-      from None = (refl, refl)
-      from (Some key) = let earlier = earlier_bins key bins all in (key_after-drop key bins (bin_of key) earlier, crowded_after-drop key bins (bin_of key) earlier)
+after_start : (bins : List Index) → AreBins bins → (after : Option (List ℕ)) → (key_after (joined (drop (start_of after) bins)) after ≡ key_after (joined bins) after) × (crowded_after (joined (drop (start_of after) bins)) after ≡ crowded_after (joined bins) after)
+after_start bins all None = (refl, refl)
+after_start bins all (Some key) = let earlier = earlier_bins key bins all in (key_after-drop key bins (bin_of key) earlier, crowded_after-drop key bins (bin_of key) earlier)
 
-  module _ (slice : List Index) (start : ℕ) (same : slice ≡ bins) (is : start ≡ start_of after) where
-    rest_is : take (length slice - start) (drop start slice) ≡ drop (start_of after) bins
-    rest_is = take_rest slice start ∙ ap (drop start) same ∙ ap (λ n. drop n bins) is
+-- the rest of the group in which the walk starts, and the later groups
+module _ {B : Type 0} (groups : List (Vec Index B)) (all : AreGroups groups) (after : Option (List ℕ)) (start : ℕ) (is : start ≡ start_of after) (within : start < 81920) (group : Vec Index B) (read : group ≡ get_or groups (start / 256) group) (rest : Index) (rest_is : rest ≡ joined (drop (start % 256) (bins_in group.items))) (later : List (Vec Index B)) (later_is : later ≡ drop (start / 256 + 1) groups) where
+  from_start : joined (drop (start_of after) (all_bins groups)) ≡ rest ++ joined (all_bins later)
+  from_start =
+      ap (λ n. joined (drop n (all_bins groups))) (sym is)
+      ∙ ap joined (drop-groups groups all start within group read)
+      ∙ flat_map-append (λ bin. bin) (drop (start % 256) (bins_in group.items)) (all_bins (drop (suc (start / 256)) groups))
+      ∙ ap (λ l. l ++ joined (all_bins (drop (suc (start / 256)) groups))) (sym rest_is)
+      ∙ ap (λ l. rest ++ joined (all_bins l)) (ap (λ n. drop n groups) (sym (add-one (start / 256))) ∙ sym later_is)
 
-    pub key_after-rest : key_after (joined (take (length slice - start) (drop start slice))) after ≡ key_after index after
-    key_after-rest = ap (λ rest. key_after (joined rest) after) rest_is ∙ after_start.0
+  pub key_after-start : (found : Option (List ℕ)) → found ≡ key_after rest after → option_or found (key_after (joined (all_bins later)) after) ≡ key_after (joined (all_bins groups)) after
+  key_after-start found is_found =
+      ap (λ o. option_or o (key_after (joined (all_bins later)) after)) is_found
+      ∙ sym (key_after-split after rest (joined (all_bins later)) _ from_start) ∙ (after_start (all_bins groups) all.bins after).0
 
-    pub crowded_after-rest : crowded_after (joined (take (length slice - start) (drop start slice))) after ≡ crowded_after index after
-    crowded_after-rest = ap (λ rest. crowded_after (joined rest) after) rest_is ∙ after_start.1
+  pub crowded_after-start : (most : ℕ) (found : List (List ℕ)) → found ≡ take most (crowded_after rest after) → take most (found ++ crowded_after (joined (all_bins later)) after) ≡ take most (crowded_after (joined (all_bins groups)) after)
+  crowded_after-start most found is_found =
+      ap (λ l. take most (l ++ crowded_after (joined (all_bins later)) after)) is_found
+      ∙ crowded_after-split after rest (joined (all_bins later)) _ from_start most [] ∙ ap (take most) (after_start (all_bins groups) all.bins after).1

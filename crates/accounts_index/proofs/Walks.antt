@@ -73,7 +73,7 @@ module _ {X Y : Type 0} (R : Y → Y → Type 0) (f : X → Y) where
   abbrev Before : X → X → Type 0
   Before x y = R (f x) (f y)
 
-  pairs_map : (xs : List X) → AllPairs Before xs → AllPairs R (map f xs)
+  pub pairs_map : (xs : List X) → AllPairs Before xs → AllPairs R (map f xs)
   pairs_map [] pairs = λ i j d lt within. let h : j < 0 = within in absurd (omega (arith, h))
   pairs_map (x ∷ xs) pairs =
       AllPairs-cons R (f x) (map f xs) (All-map (R (f x)) f xs (λ k d lt. pairs 0 (suc k) d (omega arith) (omega (arith, lt))))

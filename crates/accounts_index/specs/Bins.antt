@@ -1,6 +1,7 @@
--- How the bins of an index are numbered, and what they are together.
-use Rattle.std.specs.Prelude.{◌≡◌, ◌≢◌, ◌==◌, if◌then◌else◌, ℕ, ◌+◌, ◌*◌, ◌/◌, ◌<◌, min, List, length, Option, Some, None, All, slice_index, slice_index_or}
+-- How the bins of an index are numbered and grouped, and what they are together.
+use Rattle.std.specs.Prelude.{◌≡◌, ◌≢◌, ◌==◌, if◌then◌else◌, ℕ, ◌+◌, ◌*◌, ◌/◌, ◌<◌, min, List, [], ◌∷◌, length, replicate, Option, Some, None, All, slice_index, slice_index_or}
 use Rattle.std.specs.List.{flat_map}
+use Rattle.std.specs.declared.vec.Vec.{Vec}
 use Rattle.accounts_index.specs.Index.{Index, nothing, IsOrdered}
 
 -- the number of a key's first two bytes
@@ -24,6 +25,15 @@ start_of (Some after) = bin_of after
 abbrev pub joined : List Index → Index
 joined bins = flat_map (λ bin. bin) bins
 
+-- the 256 bins of a group, which has none of them before a key came into it
+unfoldable pub bins_in : List Index → List Index
+bins_in [] = replicate 256 []
+bins_in (bin ∷ bins) = bin ∷ bins
+
+-- the bins of all groups, group after group
+abbrev pub all_bins : {B : Type 0} → List (Vec Index B) → List Index
+all_bins groups = flat_map (λ group. bins_in group.items) groups
+
 -- something is kept of each key
 abbrev pub AreUsed : Index → Type 0
 AreUsed keys = All (λ e. e.1 ≢ nothing) keys
@@ -32,9 +42,15 @@ AreUsed keys = All (λ e. e.1 ≢ nothing) keys
 abbrev pub HasNumber : ℕ → Index → Type 0
 HasNumber number bin = All (λ e. bin_of e.0 ≡ number) bin
 
--- what holds between calls
+-- what holds of the bins between calls
 pub record AreBins (bins : List Index) : Type 0 where
-  pub every_number : length bins ≡ 81919
+  pub every_number : length bins ≡ 81920
   pub numbered : (k : ℕ) (d : Index) → k < length bins → HasNumber k (slice_index_or bins k d)
   pub used : All AreUsed bins
   pub ordered : All IsOrdered bins
+
+-- what holds of the groups between calls
+pub record AreGroups {B : Type 0} (groups : List (Vec Index B)) : Type 0 where
+  pub every_group : length groups ≡ 320
+  pub whole : All (λ group. length (bins_in group.items) ≡ 256) groups
+  pub bins : AreBins (all_bins groups)

@@ -10,6 +10,7 @@ use Rattle.std.specs.declared.cmp.Ordering.TheVariants.{Less}
 use Rattle.slot_list.specs.declared.Place.{Place}
 use Rattle.slot_list.specs.declared.Place.TheVariants.{Cached, Stored}
 use Rattle.slot_list.specs.declared.Version.{Version}
+use Rattle.slot_list.specs.Versions.{VersionsRise}
 
 -- what is kept of a key: its versions by rising slot, the slots in which it is held, and those in which it is expected to be
 pub record Kept : Type 0 where
@@ -38,6 +39,10 @@ key_cmp a b = slice_cmp nat_cmp a b
 -- each key is below all later ones
 abbrev pub IsOrdered : Index → Type 0
 IsOrdered index = AllPairs (λ a b. key_cmp a.0 b.0 ≡ Less) index
+
+-- the versions of each key are of rising slots
+abbrev pub ListsRise : Index → Type 0
+ListsRise index = (k : List ℕ) → VersionsRise (kept index k).versions
 
 -- the key is above another one, if one is given
 abbrev pub is_above : Option (List ℕ) → List ℕ → Bool

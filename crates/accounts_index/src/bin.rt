@@ -57,6 +57,17 @@ impl Bin {
         }
     }
 
+    pub fn list(&self, key: &Key) -> Option<&SlotList>
+        ensures { MatchOption (option_copied result)
+            (kept self.now key.now.0 ≡ nothing)
+            (λ list. (list.versions ≡ (kept self.now key.now.0).versions) × (list.held ≡ (kept self.now key.now.0).held)) }
+    {
+        match find_place(&self.entries, key) {
+            Ok(place) => Some(&self.entries[place].lists.list),
+            Err(_) => None,
+        }
+    }
+
     pub fn version(&self, key: &Key, slot: Slot) -> Option<Version>
         ensures { result ≡ at slot (kept self.now key.now.0).versions }
     {

@@ -10,16 +10,16 @@ use std::alloc::{AllocError, Global};
 /// The number of bins for keys that begin with two zeros, one for each value of the 14 bits after these.
 const ZERO_BINS: usize = 16384;
 
-/// The number of all bins: one more for each other value of a key's first two bytes.
-const BINS: usize = 81919;
+/// How many bins a group has.
+pub const GROUP: usize = 256;
 
-/// The bins of an index without keys.
+/// The bins of a group without keys.
 pub fn empty_bins(alloc: Global) -> Result<Vec<Bin>, AllocError>
-    ensures every { IfOk result (λ bins. length bins.items ≡ 81919) }
+    ensures every { IfOk result (λ bins. length bins.items ≡ 256) }
     ensures empty { IfOk result (λ bins. All (λ bin. bin ≡ []) bins.items) }
 {
-    let mut bins = Vec::with_capacity(alloc, BINS)?;
-    for _ in 0..BINS {
+    let mut bins = Vec::with_capacity(alloc, GROUP)?;
+    for _ in 0..GROUP {
         bins.push(Bin::new(alloc))?;
     }
     Ok(bins)
@@ -28,7 +28,7 @@ pub fn empty_bins(alloc: Global) -> Result<Vec<Bin>, AllocError>
 /// The number of a key's bin.
 pub fn bin_of(key: &Key) -> usize
     ensures number { result ≡ bin_of key.now.0 }
-    ensures within { result < 81919 }
+    ensures within { result < 81920 }
 {
     let first = 256 * usize::from(key.0[0]) + usize::from(key.0[1]);
     if first == 0 {
@@ -40,7 +40,7 @@ pub fn bin_of(key: &Key) -> usize
 /// The number of the first bin that may have a key above another.
 pub fn start_of(after: Option<&Key>) -> usize
     ensures number { result ≡ start_of (option_map (λ k. k.now.0) after.entry) }
-    ensures within { result < 81919 }
+    ensures within { result < 81920 }
 {
     match after {
         Some(key) => bin_of(key),
@@ -60,11 +60,12 @@ pub fn key_after(bins: &[Bin], after: Option<&Key>) -> Option<Key>
     None
 }
 
-/// The first `most` crowded keys above another.
+/// Adds crowded keys above another, rising, while `into` has fewer than `most`.
 pub fn crowded_after(bins: &[Bin], after: Option<&Key>, into: &mut ArrayVec<Key, 256>, most: usize)
-    requires empty { into.old.items ≡ [] }
+    requires few { length into.old.items ≤ most }
     requires most { most ≤ 256 }
-    ensures { map (λ k. k.0) into.new.items ≡ take most (crowded_after (joined bins.now) (option_map (λ k. k.now.0) after.entry)) }
+    ensures { map (λ k. k.0) into.new.items
+        ≡ take most (map (λ k. k.0) into.old.items ++ crowded_after (joined bins.now) (option_map (λ k. k.now.0) after.entry)) }
 {
     for bin in bins {
         if into.len() == most {

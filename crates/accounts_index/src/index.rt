@@ -2,10 +2,11 @@ ghost use Rattle.std.specs.Prelude.{◌≡◌, ◌+◌, ◌-◌, ◌*◌, ◌^�
 ghost use Rattle.view_sets.specs.Slots.{among};
 ghost use Rattle.slot_list.specs.Versions.{at, put, without, rehomed, with_slot, without_slot};
 ghost use Rattle.accounts_index.specs.Bins.{AreUsed};
-ghost use Rattle.accounts_index.specs.Index.{kept, nothing, IsWith, IsOrdered, key_after, crowded_after};
+ghost use Rattle.accounts_index.specs.Index.{kept, nothing, IsWith, IsOrdered, ListsRise, key_after, crowded_after};
 
 use crate::bin::Bin;
-use crate::bins::{self, bin_of, empty_bins, start_of};
+use crate::bins::{GROUP, bin_of};
+use crate::groups::{self, empty_groups, grow};
 use crate::steps::Steps;
 use adb_model::{Key, Slot};
 use arrayvec::ArrayVec;
@@ -17,19 +18,20 @@ use std::sync::ledger::Ledger;
 /// Keys with what is kept of them: versions by slot, and the slots in which a key is held or expected to be.
 #[derive(Drop)]
 pub struct AccountsIndex {
-    /// By the first bytes of their keys.
-    bins: Vec<Bin>,
+    /// The bins of keys by their first bytes, in groups. A group has no bins before a key comes into it.
+    groups: Vec<Vec<Bin>>,
+    alloc: Global,
 }
 
 impl Model for AccountsIndex {
-    ghost use Rattle.accounts_index.specs.Index.{Index};
-    ghost use Rattle.accounts_index.specs.Bins.{joined, AreBins};
+    ghost use Rattle.accounts_index.specs.Index.{Index, ListsRise};
+    ghost use Rattle.accounts_index.specs.Bins.{joined, all_bins, AreGroups};
 
     ghost Value = { Index };
 
-    ghost view = { λ i. joined i.bins.items };
+    ghost view = { λ i. joined (all_bins i.groups.items) };
 
-    ghost invariant = { λ i. AreBins i.bins.items };
+    ghost invariant = { λ i. AreGroups i.groups.items × ListsRise (joined (all_bins i.groups.items)) };
 }
 
 impl AccountsIndex {
@@ -38,7 +40,8 @@ impl AccountsIndex {
         ensures { IfOk result (λ index. index ≡ []) }
     {
         Ok(AccountsIndex {
-            bins: empty_bins(alloc)?,
+            groups: empty_groups(alloc)?,
+            alloc,
         })
     }
 
@@ -52,14 +55,38 @@ impl AccountsIndex {
         ensures cost { 2 ^ (steps.new - steps.old) ≤ 2 * length self.now + 1 }
         ensures used { AreUsed self.now }
     {
-        self.bins[bin_of(key)].find(key, steps)
+        let number = bin_of(key);
+        let group = &self.groups[number / GROUP];
+        if group.is_empty() {
+            return None;
+        }
+        group[number % GROUP].find(key, steps)
+    }
+
+    /// The list of a key, as `find` gives it, where steps aren't counted.
+    pub fn list(&self, key: &Key) -> Option<&SlotList>
+        ensures { MatchOption (option_copied result)
+            (kept self.now key.now.0 ≡ nothing)
+            (λ list. (list.versions ≡ (kept self.now key.now.0).versions) × (list.held ≡ (kept self.now key.now.0).held)) }
+    {
+        let number = bin_of(key);
+        let group = &self.groups[number / GROUP];
+        if group.is_empty() {
+            return None;
+        }
+        group[number % GROUP].list(key)
     }
 
     /// The version that a key has in a slot.
     pub fn version(&self, key: &Key, slot: Slot) -> Option<Version>
         ensures { result ≡ at slot (kept self.now key.now.0).versions }
     {
-        self.bins[bin_of(key)].version(key, slot)
+        let number = bin_of(key);
+        let group = &self.groups[number / GROUP];
+        if group.is_empty() {
+            return None;
+        }
+        group[number % GROUP].version(key, slot)
     }
 
     /// Puts a version in, in place of the one that the key has in its slot, which takes no memory.
@@ -69,7 +96,10 @@ impl AccountsIndex {
         ensures err { OnErr result (self.new ≡ self.old) }
         ensures replaces { IsSome (at version.slot (kept self.old key.now.0).versions) → IsOk result }
     {
-        let bin = &mut self.bins[bin_of(key)];
+        let number = bin_of(key);
+        let group = &mut self.groups[number / GROUP];
+        grow(group, self.alloc)?;
+        let bin = &mut group[number % GROUP];
         bin.upsert(key, version)
     }
 
@@ -79,7 +109,9 @@ impl AccountsIndex {
         ensures { let old = kept self.old key.now.0 in
             IsWith self.old self.new key.now.0 (record old { versions = without slot old.versions }) }
     {
-        let bin = &mut self.bins[bin_of(key)];
+        let number = bin_of(key);
+        let group = &mut self.groups[number / GROUP];
+        let bin = &mut group[number % GROUP];
         bin.drop_version(key, slot);
     }
 
@@ -89,7 +121,9 @@ impl AccountsIndex {
         ensures { let old = kept self.old key.now.0 in
             IsWith self.old self.new key.now.0 (record old { versions = rehomed slot place old.versions }) }
     {
-        let bin = &mut self.bins[bin_of(key)];
+        let number = bin_of(key);
+        let group = &mut self.groups[number / GROUP];
+        let bin = &mut group[number % GROUP];
         bin.rehome(key, slot, place);
     }
 
@@ -99,7 +133,10 @@ impl AccountsIndex {
             IsWith self.old self.new key.now.0 (record old { expected = old.expected ++ slot ∷ [] })) }
         ensures err { OnErr result (self.new ≡ self.old) }
     {
-        let bin = &mut self.bins[bin_of(key)];
+        let number = bin_of(key);
+        let group = &mut self.groups[number / GROUP];
+        grow(group, self.alloc)?;
+        let bin = &mut group[number % GROUP];
         bin.expect(key, slot)
     }
 
@@ -108,7 +145,12 @@ impl AccountsIndex {
         ensures { let old = kept self.old key.now.0 in
             IsWith self.old self.new key.now.0 (record old { expected = without_slot slot old.expected }) }
     {
-        let bin = &mut self.bins[bin_of(key)];
+        let number = bin_of(key);
+        let group = &mut self.groups[number / GROUP];
+        if group.is_empty() {
+            return;
+        }
+        let bin = &mut group[number % GROUP];
         bin.unexpect(key, slot);
     }
 
@@ -120,7 +162,9 @@ impl AccountsIndex {
             IsWith self.old self.new key.now.0
             (record old { held = with_slot slot old.held; expected = without_slot slot old.expected }) }
     {
-        let bin = &mut self.bins[bin_of(key)];
+        let number = bin_of(key);
+        let group = &mut self.groups[number / GROUP];
+        let bin = &mut group[number % GROUP];
         bin.hold(key, slot);
     }
 
@@ -129,8 +173,21 @@ impl AccountsIndex {
         ensures { let old = kept self.old key.now.0 in
             IsWith self.old self.new key.now.0 (record old { held = without_slot slot old.held }) }
     {
-        let bin = &mut self.bins[bin_of(key)];
+        let number = bin_of(key);
+        let group = &mut self.groups[number / GROUP];
+        if group.is_empty() {
+            return;
+        }
+        let bin = &mut group[number % GROUP];
         bin.unhold(key, slot);
+    }
+
+    /// Does nothing. It tells contracts that the keys of each index rise, and the versions of each key.
+    pub fn in_order(&self)
+        ensures keys { IsOrdered self.now }
+        ensures lists { ListsRise self.now }
+    {
+        let _groups = &self.groups;
     }
 
     /// The least key above another, or of all keys, that has a version.
@@ -138,7 +195,7 @@ impl AccountsIndex {
         ensures first { option_map (λ k. k.0) result ≡ key_after self.now (option_map (λ k. k.now.0) after.entry) }
         ensures rise { IsOrdered self.now }
     {
-        bins::key_after(&self.bins[start_of(after)..], after)
+        groups::key_after(&self.groups, after)
     }
 
     /// Fills `into` with the first `most` crowded keys above another, or of all keys, rising: those that have two
@@ -148,7 +205,8 @@ impl AccountsIndex {
         requires most { most ≤ 256 }
         ensures first { map (λ k. k.0) into.new.items ≡ take most (crowded_after self.now (option_map (λ k. k.now.0) after.entry)) }
         ensures rise { IsOrdered self.now }
+        ensures lists { ListsRise self.now }
     {
-        bins::crowded_after(&self.bins[start_of(after)..], after, into, most);
+        groups::crowded_after(&self.groups, after, into, most);
     }
 }

@@ -5,6 +5,7 @@ mod bin;
 mod bins;
 mod edits;
 mod entry;
+mod groups;
 mod index;
 mod search;
 mod steps;

@@ -105,6 +105,8 @@ fn an_expected_slot_is_held_and_let_go(rt: HostRuntime) -> Result<(), Fail> {
     index.unhold(&key, 9);
     index.upsert(&key, version(8, STORED, false))?;
     assert_eq!(rt; find(&index, &key), Some((1, 1)));
+    let held = index.list(&key).map(|list| list.held().len());
+    assert_eq!(rt; held, Some(1));
     assert_eq!(rt; index.version(&key, 8), Some(version(8, STORED, false)));
     assert!(rt; index.version(&key, 5).is_none());
     index.unexpect(&key, 9);
@@ -113,5 +115,50 @@ fn an_expected_slot_is_held_and_let_go(rt: HostRuntime) -> Result<(), Fail> {
     assert!(rt; index.version(&key, 8).is_some());
     index.drop_version(&key, 8);
     assert_eq!(rt; find(&index, &key), None);
+    Ok(())
+}
+
+// A key that begins with four bytes, and goes on high.
+fn key_from(first: [u8; 4]) -> Key {
+    let mut bytes = [255; 32];
+    bytes[0] = first[0];
+    bytes[1] = first[1];
+    bytes[2] = first[2];
+    bytes[3] = first[3];
+    Key(bytes)
+}
+
+#[test]
+fn walks_pass_over_groups(rt: HostRuntime) -> Result<(), Fail> {
+    let mut index = AccountsIndex::new(rt.alloc())?;
+    // In the first and the last bin of all, and at both ends of groups between them.
+    let keys = [
+        key_from([0, 0, 0, 0]),
+        key_from([0, 0, 3, 255]),
+        key_from([0, 0, 4, 0]),
+        key_from([0, 0, 255, 255]),
+        key_from([0, 1, 0, 0]),
+        key_from([128, 0, 255, 255]),
+        key_from([128, 1, 0, 0]),
+        key_from([255, 255, 255, 255]),
+    ];
+    for key in &keys {
+        assert!(rt; index.version(key, 5).is_none());
+        index.unhold(key, 5);
+        index.unexpect(key, 5);
+        index.upsert(key, version(5, STORED, true))?;
+    }
+    let mut after = None;
+    for key in &keys {
+        after = index.key_after(after.as_ref());
+        assert_eq!(rt; after, Some(*key));
+    }
+    assert_eq!(rt; index.key_after(after.as_ref()), None);
+    for (start, key) in keys.iter().enumerate() {
+        let mut into = ArrayVec::new();
+        index.crowded_after(Some(key), &mut into, 3);
+        let rest = &keys[start + 1..];
+        assert_eq!(rt; into.as_slice(), &rest[..rest.len().min(3)]);
+    }
     Ok(())
 }

@@ -1,2 +1,3 @@
+pub mod NoneAlive
 pub mod Entries
 pub mod Ranges

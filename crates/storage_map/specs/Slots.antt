@@ -1,5 +1,5 @@
 -- What contracts see of a storage map: by rising slot, the storages of each that has some.
-use Rattle.std.specs.Prelude.{◌≡◌, ℕ, ◌+◌, ◌-◌, ◌≤◌, ◌<◌, ◌==◌, ◌||◌, Bool, if◌then◌else◌, List, Option, Some, None, IsSome, is_some, option_map, option_and_then, sum_by}
+use Rattle.std.specs.Prelude.{◌≡◌, ℕ, ◌+◌, ◌-◌, ◌≤◌, ◌<◌, ◌==◌, ◌||◌, Bool, if◌then◌else◌, List, Option, Some, None, IsSome, IsSomeAnd, is_some, option_map, option_and_then, sum_by}
 use Rattle.std.specs.Map.{lookup, values_of}
 use Rattle.std.specs.Option.{option_map_or}
 use Rattle.storage_map.specs.declared.entry.Live.{Live}
@@ -64,3 +64,8 @@ pub record Becomes (old new : Slots) (slot : ℕ) (live : Option Live) (begun : 
 abbrev pub IsNextLive : Slots → ℕ → Option ℕ → Type 0
 IsNextLive slots from None = (q : ℕ) → from ≤ q → live_at slots q ≡ None
 IsNextLive slots from (Some slot) = (from ≤ slot) × IsSome (live_at slots slot) × ((q : ℕ) → from ≤ q → q < slot → live_at slots q ≡ None)
+
+-- a slot whose storage in use has no row alive, or none where each storage in use has one
+abbrev pub TellsEmptied : Slots → Option ℕ → Type 0
+TellsEmptied slots None = (q : ℕ) (live : Live) → live_at slots q ≡ Some live → 0 < live.alive
+TellsEmptied slots (Some slot) = IsSomeAnd (live_at slots slot) (λ live. live.alive ≡ 0)

@@ -1,5 +1,6 @@
 // What a slot has.
 ghost use Rattle.std.specs.Prelude.{◌≡◌};
+ghost use Rattle.storage_map.specs.Inside.{is_emptied};
 ghost use Rattle.storage_map.specs.Slots.{alive_in, total_in, is_filled};
 
 use cell_table::Cell;
@@ -49,5 +50,11 @@ impl Entry {
         ensures { result ≡ total_in self.now.live }
     {
         self.live.map_or(0, |live| live.total)
+    }
+    /// Whether it has a storage in use without a row alive.
+    pub fn is_emptied(&self) -> bool
+        ensures { result ≡ is_emptied self.now.live }
+    {
+        self.live.is_some_and(|live| live.alive == 0)
     }
 }

@@ -1,6 +1,7 @@
 //! The storages of each slot: the one in use, and the one that is being filled.
 #![tactic(auto)]
 
+mod emptied;
 mod entry;
 mod map;
 mod slots;

@@ -1,6 +1,7 @@
 ghost use Rattle.std.specs.Prelude.{◌≡◌, ◌+◌, ◌%◌, ◌^◌, ◌<◌, ℕ, [], Some, None, option_map, IsSome, IsSomeAnd, OnOk, OnErr};
-ghost use Rattle.storage_map.specs.Slots.{live_at, begun_at, HasEntry, alive_sum, total_sum, begun_with, published, one_less, Becomes, IsNextLive};
+ghost use Rattle.storage_map.specs.Slots.{live_at, begun_at, HasEntry, alive_sum, total_sum, begun_with, published, one_less, Becomes, IsNextLive, TellsEmptied};
 
+use crate::emptied::relist;
 use crate::entry::{Begun, Entry, Live};
 use crate::slots::{Slots, change_entry, entry_of, next_from, put_entry};
 use adb_model::Slot;
@@ -14,6 +15,9 @@ use std::marker::Model;
 pub struct StorageMap {
     slots: Slots,
 
+    // The slots whose storage in use has no row alive, with room for all slots.
+    emptied: Vec<Slot>,
+
     // The sums over the live storages, modulo 2^64.
     alive: u64,
     total: u64,
@@ -24,11 +28,12 @@ impl Model for StorageMap {
 
     ghost Value = { seen.Slots };
 
-    ghost use Rattle.storage_map.specs.Inside.{IsCounted};
+    ghost use Rattle.std.specs.Vec.{vec_capacity};
+    ghost use Rattle.storage_map.specs.Inside.{IsCounted, AreListed};
 
     ghost view = { λ m. m.slots.entries };
 
-    ghost invariant = { λ m. IsCounted m.slots.entries m.alive m.total };
+    ghost invariant = { λ m. IsCounted m.slots.entries m.alive m.total × AreListed m.slots.entries m.emptied.items (vec_capacity m.emptied) };
 }
 
 impl StorageMap {
@@ -38,6 +43,7 @@ impl StorageMap {
     {
         StorageMap {
             slots: BTreeMap::new(alloc),
+            emptied: Vec::new(alloc),
             alive: 0,
             total: 0,
         }
@@ -51,6 +57,7 @@ impl StorageMap {
         ensures ok { OnOk result (Becomes self.old self.new slot (live_at self.old slot) (Some (begun_with cell rows))) }
         ensures err { OnErr result (self.new ≡ self.old) }
     {
+        self.emptied.reserve(self.slots.len() + 1)?;
         let entry = Entry {
             live: entry_of(&self.slots, slot).live,
             begun: Some(Begun { cell, rows }),
@@ -128,6 +135,13 @@ impl StorageMap {
         next_from(&self.slots, from)
     }
 
+    /// A slot whose storage in use has no row alive, or `None` where there is none.
+    pub fn emptied(&self) -> Option<Slot>
+        ensures { TellsEmptied self.now result }
+    {
+        self.emptied.last().copied()
+    }
+
     /// The sums of the alive rows and of all rows over the storages in use.
     pub fn sums(&self) -> (u64, u64)
         requires alive { alive_sum self.now < 2 ^ 64 }
@@ -149,6 +163,7 @@ impl StorageMap {
         self.alive = moved(self.alive, old.alive(), new.alive());
         self.total = moved(self.total, old.total(), new.total());
         change_entry(&mut self.slots, slot, new);
+        relist(&mut self.emptied, slot, old.is_emptied(), new.is_emptied());
     }
 }
 

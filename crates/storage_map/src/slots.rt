@@ -1,7 +1,7 @@
 // The entries of all slots.
 ghost use Rattle.std.specs.Prelude.{◌≡◌, None, IsSome, OnOk, OnErr};
-ghost use Rattle.storage_map.specs.Inside.{AreFilled};
-ghost use Rattle.storage_map.specs.Slots.{live_at, begun_at, HasEntry, Becomes, IsNextLive};
+ghost use Rattle.storage_map.specs.Inside.{AreFilled, IsChanged};
+ghost use Rattle.storage_map.specs.Slots.{live_at, begun_at, HasEntry, IsNextLive};
 
 use crate::entry::Entry;
 use adb_model::Slot;
@@ -30,7 +30,7 @@ pub fn put_entry(slots: &mut Slots, slot: Slot, entry: Entry) -> Result<(), Allo
     requires filled { AreFilled slots.old.entries }
     requires begun { IsSome entry.begun }
     ensures filled { AreFilled slots.new.entries }
-    ensures ok { OnOk result (Becomes slots.old.entries slots.new.entries slot entry.live entry.begun) }
+    ensures ok { OnOk result (IsChanged slots.old.entries slots.new.entries slot entry 1) }
     ensures err { OnErr result (slots.new.entries ≡ slots.old.entries) }
 {
     slots.insert(slot, entry)?;
@@ -43,7 +43,7 @@ pub fn change_entry(slots: &mut Slots, slot: Slot, entry: Entry)
     requires live { IsSome entry.live → HasEntry slots.old.entries slot }
     requires begun { IsSome entry.begun → HasEntry slots.old.entries slot }
     ensures filled { AreFilled slots.new.entries }
-    ensures changed { Becomes slots.old.entries slots.new.entries slot entry.live entry.begun }
+    ensures changed { IsChanged slots.old.entries slots.new.entries slot entry 0 }
 {
     if !entry.is_filled() {
         slots.remove(&slot);

@@ -59,3 +59,23 @@ fn the_next_storage_in_use_passes_those_that_have_begun(rt: HostRuntime) -> Resu
     assert_eq!(rt; map.next_live(6), Some(9));
     Ok(())
 }
+
+#[test]
+fn emptied_slots_are_told_until_they_are_removed(rt: HostRuntime) -> Result<(), Fail> {
+    let mut map = StorageMap::new(rt.alloc());
+    fill(&mut map, 9, 1, 1)?;
+    fill(&mut map, 5, 3, 2)?;
+    assert_eq!(rt; map.emptied(), None);
+    assert_eq!(rt; lose(&mut map, 5), Some(1));
+    assert_eq!(rt; map.emptied(), None);
+    assert_eq!(rt; lose(&mut map, 9), Some(0));
+    assert_eq!(rt; map.emptied(), Some(9));
+    assert_eq!(rt; lose(&mut map, 5), Some(0));
+    map.remove(9);
+    assert_eq!(rt; map.emptied(), Some(5));
+    map.remove(5);
+    assert_eq!(rt; map.emptied(), None);
+    fill(&mut map, 5, 3, 0)?;
+    assert_eq!(rt; map.emptied(), Some(5));
+    Ok(())
+}

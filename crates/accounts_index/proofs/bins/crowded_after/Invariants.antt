@@ -6,6 +6,7 @@ use Rattle.accounts_index.proofs.bins.crowded_after.Given as goal
 abbrev pub invariant-loop-bin : goal.invariant-loop-bin
 invariant-loop-bin l =
     let after = option_map (λ k. k.now.0) l.after in record {
-      crowded : take l.most (map (λ k. k.0) l.into.items ++ crowded_after (joined (drop l.bin-index l.bins)) after) ≡ take l.most (crowded_after (joined l.bins) after);
+      crowded : take l.most (map (λ k. k.0) l.into.items ++ crowded_after (joined (drop l.bin-index l.bins)) after)
+          ≡ take l.most (map (λ k. k.0) l.fn.into.items ++ crowded_after (joined l.bins) after);
       few : length l.into.items ≤ l.most;
     }

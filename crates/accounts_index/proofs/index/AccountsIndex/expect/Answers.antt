@@ -1,18 +1,36 @@
 use Rattle.std.proofs.Common.{◌++◌, ◌∷◌, []}
-use Rattle.std.proofs.lemmas.Result.{on_ok_weaker}
+use Rattle.std.proofs.lemmas.Result.{on_ok_weaker, on_err_weaker}
 use Rattle.accounts_index.specs.Index.{Kept}
-use Rattle.accounts_index.proofs.Changes.{either}
-use Rattle.accounts_index.proofs.Joined.{AreBins-edit, AreBins-same, IsWith-joined}
+use Rattle.accounts_index.proofs.Changes.{either, on_err_any}
+use Rattle.accounts_index.proofs.Edited.{Reached, Opened, joined-regrown, Holds-regrown, joined-unedited, Holds-unedited, IsWith-edited, Holds-edited}
 use Rattle.accounts_index.proofs.index.AccountsIndex.expect.Goals as goal
 
 pub invariant_of-self : goal.invariant_of-self
 invariant_of-self c =
+    let reached : Reached c.args.self.now c.self.inside.groups.items c.args.key.now.0 c.bin_of-number.result c.index_mut-group.result.now = record { view = c.self.view_is; holds = c.self.invariant; is = c.bin_of-number.ensures.number; within = c.bin_of-number.ensures.within; read = c.index_mut-group.ensures.value } in
+    Holds-regrown _ _ _ _ _ reached c.grow.new.group c.grow.ensures.same
+
+pub returns-in_err-grow-clause-err : goal.returns-in_err-grow-clause-err
+returns-in_err-grow-clause-err c =
+    let reached : Reached c.args.self.now c.self.inside.groups.items c.args.key.now.0 c.bin_of-number.result c.index_mut-group.result.now = record { view = c.self.view_is; holds = c.self.invariant; is = c.bin_of-number.ensures.number; within = c.bin_of-number.ensures.within; read = c.index_mut-group.ensures.value } in
+    on_err_any c.from_residual.result (joined-regrown _ _ _ _ _ reached c.grow.new.group c.grow.ensures.same)
+
+pub invariant_of-self-2 : goal.invariant_of-self-2
+invariant_of-self-2 c =
+    let reached : Reached c.args.self.now c.self.inside.groups.items c.args.key.now.0 c.bin_of-number.result c.index_mut-group.result.now = record { view = c.self.view_is; holds = c.self.invariant; is = c.bin_of-number.ensures.number; within = c.bin_of-number.ensures.within; read = c.index_mut-group.ensures.value } in
+    let got : Opened c.index_mut-group.result.now c.grow.new.group c.bin_of-number.result c.index_mut-bin.result.now = record { grown = c.in_ok-grow.ensures.grown; same = c.grow.ensures.same; read = c.index_mut-bin.ensures.value } in
     either c.expect.result c.expect.ensures.ok c.expect.ensures.err
-    (λ edit. AreBins-edit _ _ c.self.view_is c.self.invariant _ _ c.bin_of.ensures.number c.bin_of.ensures.within _ c.index_mut-bin.ensures.value _ c.expect.ensures.used c.expect.ensures.rise _ edit)
-    (λ same. AreBins-same _ _ c.self.view_is c.self.invariant c.args.key.now.0 _ c.bin_of.ensures.number c.bin_of.ensures.within _ c.index_mut-bin.ensures.value _ c.expect.ensures.used c.expect.ensures.rise same)
+    (λ edit. Holds-edited _ _ _ _ _ reached _ _ got _ c.expect.ensures.used c.expect.ensures.rise (λ (k : Kept). record k { expected = k.expected ++ c.args.slot ∷ [] }) edit (λ (k : Kept) rise. rise))
+    (λ same. Holds-unedited _ _ _ _ _ reached _ _ got _ c.expect.ensures.used c.expect.ensures.rise same)
 
 pub returns-clause-ok : goal.returns-clause-ok
 returns-clause-ok c =
-    on_ok_weaker c.expect.result
-    (λ edit. IsWith-joined _ _ c.self.view_is c.self.invariant _ _ c.bin_of.ensures.number c.bin_of.ensures.within _ c.index_mut-bin.ensures.value _ c.expect.ensures.used c.expect.ensures.rise
-    (λ (k : Kept). record k { expected = k.expected ++ c.args.slot ∷ [] }) edit) c.expect.ensures.ok
+    let reached : Reached c.args.self.now c.self.inside.groups.items c.args.key.now.0 c.bin_of-number.result c.index_mut-group.result.now = record { view = c.self.view_is; holds = c.self.invariant; is = c.bin_of-number.ensures.number; within = c.bin_of-number.ensures.within; read = c.index_mut-group.ensures.value } in
+    let got : Opened c.index_mut-group.result.now c.grow.new.group c.bin_of-number.result c.index_mut-bin.result.now = record { grown = c.in_ok-grow.ensures.grown; same = c.grow.ensures.same; read = c.index_mut-bin.ensures.value } in
+    on_ok_weaker c.expect.result (λ edit. IsWith-edited _ _ _ _ _ reached _ _ got _ c.expect.ensures.used c.expect.ensures.rise (λ (k : Kept). record k { expected = k.expected ++ c.args.slot ∷ [] }) edit) c.expect.ensures.ok
+
+pub returns-clause-err : goal.returns-clause-err
+returns-clause-err c =
+    let reached : Reached c.args.self.now c.self.inside.groups.items c.args.key.now.0 c.bin_of-number.result c.index_mut-group.result.now = record { view = c.self.view_is; holds = c.self.invariant; is = c.bin_of-number.ensures.number; within = c.bin_of-number.ensures.within; read = c.index_mut-group.ensures.value } in
+    let got : Opened c.index_mut-group.result.now c.grow.new.group c.bin_of-number.result c.index_mut-bin.result.now = record { grown = c.in_ok-grow.ensures.grown; same = c.grow.ensures.same; read = c.index_mut-bin.ensures.value } in
+    on_err_weaker c.expect.result (λ same. joined-unedited _ _ _ _ _ reached _ _ got _ c.expect.ensures.used c.expect.ensures.rise same) c.expect.ensures.err

@@ -1,13 +1,43 @@
-use Rattle.std.proofs.Common.{arith, subst}
+use Rattle.std.proofs.Common.{◌≡◌, ◌<◌, length, refl, subst, arith}
+use Rattle.std.proofs.lemmas.Grind.{common_steps}
 use Rattle.accounts_index.specs.Bins.{AreUsed}
-use Rattle.accounts_index.proofs.Joined.{kept_here, no_longer, AreUsed_joined}
+use Rattle.accounts_index.proofs.Joined.{AreUsed_joined}
+use Rattle.accounts_index.proofs.Edited.{Reached, Opened, nothing_here, whole_group, kept_bin, no_longer}
 use Rattle.accounts_index.proofs.index.AccountsIndex.find.Goals as goal
 
+pub returns-then-is_empty-clause-found : goal.returns-then-is_empty-clause-found
+returns-then-is_empty-clause-found g c =
+    let reached : Reached c.args.self.now c.self.inside.groups.items c.args.key.now.0 c.bin_of-number.result c.index-group.result.now = record { view = c.self.view_is; holds = c.self.invariant; is = c.bin_of-number.ensures.number; within = c.bin_of-number.ensures.within; read = c.index-group.ensures } in
+    let none : length c.index-group.result.now.items ≡ 0 = grind (arith, common_steps) in
+    nothing_here _ _ _ _ _ reached none
+
+pub returns-then-is_empty-clause-used : goal.returns-then-is_empty-clause-used
+returns-then-is_empty-clause-used g c =
+    subst AreUsed c.self.view_is (AreUsed_joined _ c.self.invariant.0.bins.used)
+
+pub index-requires : goal.index-requires
+index-requires g c =
+    let reached : Reached c.args.self.now c.self.inside.groups.items c.args.key.now.0 c.bin_of-number.result c.index-group.result.now = record { view = c.self.view_is; holds = c.self.invariant; is = c.bin_of-number.ensures.number; within = c.bin_of-number.ensures.within; read = c.index-group.ensures } in
+    let some : 0 < length c.index-group.result.now.items = grind (arith, common_steps) in
+    let grown = whole_group _ _ _ _ _ reached some in
+    omega arith
+
 pub returns-clause-found : goal.returns-clause-found
-returns-clause-found g c = rw (kept_here _ _ c.self.view_is c.self.invariant c.args.key.now.0 _ c.bin_of.ensures.number c.bin_of.ensures.within _ c.index.ensures) c.find.ensures.found
+returns-clause-found g c =
+    let reached : Reached c.args.self.now c.self.inside.groups.items c.args.key.now.0 c.bin_of-number.result c.index-group.result.now = record { view = c.self.view_is; holds = c.self.invariant; is = c.bin_of-number.ensures.number; within = c.bin_of-number.ensures.within; read = c.index-group.ensures } in
+    let some : 0 < length c.index-group.result.now.items = grind (arith, common_steps) in
+    let grown = whole_group _ _ _ _ _ reached some in
+    let got : Opened c.index-group.result.now c.index-group.result.now c.bin_of-number.result c.index.result.now = record { grown = grown; same = refl; read = c.index.ensures } in
+    rw (kept_bin _ _ _ _ _ reached _ _ got) c.find.ensures.found
 
 pub returns-clause-cost : goal.returns-clause-cost
-returns-clause-cost g c = omega (arith, c.find.ensures.cost, no_longer _ _ c.self.view_is c.self.invariant c.args.key.now.0 _ c.bin_of.ensures.number c.bin_of.ensures.within _ c.index.ensures)
+returns-clause-cost g c =
+    let reached : Reached c.args.self.now c.self.inside.groups.items c.args.key.now.0 c.bin_of-number.result c.index-group.result.now = record { view = c.self.view_is; holds = c.self.invariant; is = c.bin_of-number.ensures.number; within = c.bin_of-number.ensures.within; read = c.index-group.ensures } in
+    let some : 0 < length c.index-group.result.now.items = grind (arith, common_steps) in
+    let grown = whole_group _ _ _ _ _ reached some in
+    let got : Opened c.index-group.result.now c.index-group.result.now c.bin_of-number.result c.index.result.now = record { grown = grown; same = refl; read = c.index.ensures } in
+    omega (arith, c.find.ensures.cost, no_longer _ _ _ _ _ reached _ _ got)
 
 pub returns-clause-used : goal.returns-clause-used
-returns-clause-used g c = subst AreUsed c.self.view_is (AreUsed_joined c.self.inside.bins.items c.self.invariant.used)
+returns-clause-used g c =
+    subst AreUsed c.self.view_is (AreUsed_joined _ c.self.invariant.0.bins.used)

@@ -1,0 +1,11 @@
+use Rattle.std.proofs.Common.{sym, ap}
+use Rattle.accounts_index.proofs.Changes.{seen_kept, seen_nothing}
+use Rattle.accounts_index.proofs.bin.Bin.list.Goals as goal
+
+pub returns-in-Ok : goal.returns-in-Ok
+returns-in-Ok c =
+    let kept = seen_kept c.args.self.now c.self.inside.entries.items c.deref.result.now c.args.key.now.0 c.in-Ok.place c.index.result.now (sym c.self.view_is) c.deref.ensures.value c.in-Ok.ensures.found c.index.ensures in
+    (ap (λ k. k.versions) (sym kept), ap (λ k. k.held) (sym kept))
+
+pub returns-in-Err : goal.returns-in-Err
+returns-in-Err c = seen_nothing c.args.self.now c.self.inside.entries.items c.deref.result.now c.args.key.now.0 c.in-Err.field-0 (sym c.self.view_is) c.deref.ensures.value c.in-Err.ensures.absent
