@@ -125,6 +125,7 @@ module _ (p : Parts) (m : State) (slot cell : ℕ) (written : List Row) (index :
     rows = r.rows;
     roots = r.roots;
     cleaned = r.cleaned;
+    leases = r.leases;
     cells = fit;
     slots = record { lives = lives; begins = begins };
     counts = counted;

@@ -131,6 +131,7 @@ module _ (p : Parts) (m : State) (slot cell : ℕ) (t : Storage) (index : Index)
     rows = r.rows;
     roots = r.roots;
     cleaned = r.cleaned;
+    leases = r.leases;
     cells = fit;
     slots = record { lives = lives; begins = begins };
     counts = counted;

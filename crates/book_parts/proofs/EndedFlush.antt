@@ -275,6 +275,7 @@ module _ (p : Parts) (m : State) (slot cell : ℕ) (t : Storage) (image : Shared
       rows = λ s. dropped s ∙ ap (cond (eqb slot s) []) (r.rows s) ∙ sym (ap (λ f. cond f [] (flush_rows m s)) (d.flushed s) ∙ unflushed_then (eqb slot s) (among s m.flushed) (flush_rows m s));
       roots = r.roots;
       cleaned = r.cleaned;
+      leases = r.leases;
       cells = fit;
       slots = record { lives = lives; begins = begins };
       counts = counted;

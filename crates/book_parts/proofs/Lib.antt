@@ -15,10 +15,16 @@ mod StoredLoads
 mod Unpins
 pub mod BegunFlush
 pub mod CellChanges
+pub mod CrowdedKeys
 pub mod DroppedFlush
+pub mod DroppedVersion
 pub mod EndedFlush
 pub mod Found
+pub mod Leases
+pub mod Members
 pub mod OpenFlush
 pub mod Reflected
+pub mod RetiredStorage
 pub mod RowPlaces
 pub mod SlotChanges
+pub mod StoredVersions

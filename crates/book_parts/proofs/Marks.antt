@@ -99,6 +99,7 @@ module _ (p : Parts) (index : Index) (cache : Cache) (m : State) (slot : ℕ) (k
         ∙ ap (cond (eqb slot s) (put_row (unflushed_rows m slot) key account)) (r.rows s) ∙ rows_put s unflushed own (others s);
     roots = r.roots;
     cleaned = r.cleaned;
+    leases = r.leases;
     placed = λ k s t cell offset is. still_placed k s cell offset (left k s t cell offset is) (r.placed k s t cell offset (left_there k s t cell offset is));
     cells = r.cells;
     slots = r.slots;
@@ -138,6 +139,7 @@ reflects_root p m roots r = record {
   rows = r.rows;
   roots = refl;
   cleaned = r.cleaned;
+  leases = r.leases;
   cells = r.cells;
   slots = r.slots;
   counts = r.counts;
@@ -173,6 +175,7 @@ module _ (p : Parts) (index : Index) (cache : Cache) (m : State) (slot keys : �
         placed = λ k s t cell offset is. still_placed k s cell offset (left_in k s t cell offset is) (r.placed k s t cell offset (left_there k s t cell offset is));
         roots = r.roots;
         cleaned = r.cleaned;
+        leases = r.leases;
         cells = r.cells;
         slots = r.slots;
         counts = ap (λ n. with_cached n (counts_in p)) (fewer_cached keys_is) ∙ ap (with_cached (counts_of emptied).cached) r.counts;

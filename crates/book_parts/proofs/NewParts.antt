@@ -56,6 +56,7 @@ reflects_new table id all free = record {
   rows = λ s. refl;
   roots = refl;
   cleaned = refl;
+  leases = refl;
   cells = record {
     all = all;
     free = let h = all_free table.cells free in omega (arith, h, all);

@@ -23,16 +23,16 @@ Entry = List ℕ × Kept
 abbrev pub versions : Index → List ℕ → List Version
 versions es k = (kept es k).versions
 
-same_bytes : (a b : List ℕ) → bytes_eq a b ≡ true → a ≡ b
+pub same_bytes : (a b : List ℕ) → bytes_eq a b ≡ true → a ≡ b
 same_bytes a b e = (bytes_decides a b).0 e
 
-bytes_eq-self : (a : List ℕ) → bytes_eq a a ≡ true
+pub bytes_eq-self : (a : List ℕ) → bytes_eq a a ≡ true
 bytes_eq-self a = (bytes_decides a a).1 refl
 
-less_apart : (a b : List ℕ) → key_cmp a b ≡ Less → bytes_eq a b ≡ false
+pub less_apart : (a b : List ℕ) → key_cmp a b ≡ Less → bytes_eq a b ≡ false
 less_apart a b e = texts_ties a b ∙ ap is_eq e
 
-less_apart_turned : (a b : List ℕ) → key_cmp a b ≡ Less → bytes_eq b a ≡ false
+pub less_apart_turned : (a b : List ℕ) → key_cmp a b ≡ Less → bytes_eq b a ≡ false
 less_apart_turned a b e = texts_ties b a ∙ ap is_eq (nat_list_cmp_total.antisymm b a ∙ ap ordering_reverse e)
 
 no_versions : (vs : List Version) → nat_lt 0 (length vs) ≡ false → vs ≡ []
@@ -40,14 +40,14 @@ no_versions [] e = refl
 no_versions (v ∷ vs) e = let h : length (v ∷ vs) ≤ 0 = ltb-false 0 (length (v ∷ vs)) e in absurd (omega (arith, h))
 
 module _ (e : Entry) (es : Index) (k : List ℕ) where
-  kept_here : bytes_eq e.0 k ≡ true → kept (e ∷ es) k ≡ e.1
+  pub kept_here : bytes_eq e.0 k ≡ true → kept (e ∷ es) k ≡ e.1
   kept_here t = ap (λ b. unwrap_or (cond b (Some e.1) (lookup (λ q. bytes_eq q k) es)) nothing) t
 
-  kept_later : bytes_eq e.0 k ≡ false → kept (e ∷ es) k ≡ kept es k
+  pub kept_later : bytes_eq e.0 k ≡ false → kept (e ∷ es) k ≡ kept es k
   kept_later f = ap (λ b. unwrap_or (cond b (Some e.1) (lookup (λ q. bytes_eq q k) es)) nothing) f
 
 -- a key below all is not kept
-kept_below : (es : Index) (x k : List ℕ) → key_cmp k x ≡ Less → All (λ e. key_cmp x e.0 ≡ Less) es → kept es k ≡ nothing
+pub kept_below : (es : Index) (x k : List ℕ) → key_cmp k x ≡ Less → All (λ e. key_cmp x e.0 ≡ Less) es → kept es k ≡ nothing
 kept_below [] x k less all = refl
 kept_below (e ∷ es) x k less all =
     kept_later e es k (less_apart_turned k e.0 (nat_list_cmp_total.trans k x e.0 less (all 0 e (omega arith))))

@@ -86,6 +86,7 @@ reflects_kept p m index slots r i s = record {
   rows = r.rows;
   roots = r.roots;
   cleaned = r.cleaned;
+  leases = r.leases;
   cells = r.cells;
   slots = record {
     lives = λ q. subst (λ l. IsLiveOf p.cells.cells (named_in m q) l (live_storage m q)) (sym (s.lives q)) (r.slots.lives q);

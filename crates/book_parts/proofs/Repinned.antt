@@ -173,6 +173,7 @@ module _ (p : Parts) (m : State) (ps : List Pin) (id i : ℕ) (now : Phase Share
     rows = r.rows;
     roots = r.roots;
     cleaned = r.cleaned;
+    leases = r.leases;
     cells = cells_fit;
     slots = record {
       lives = λ s. same_live before after same_id (named_in m s) (live_at p.map s) (live_storage m s) (r.slots.lives s);

@@ -7,3 +7,4 @@ pub mod Stands
 pub mod Changes
 pub mod Flushes
 pub mod Keys
+pub mod Reclaims

@@ -7,6 +7,7 @@ use Rattle.write_cache.specs.Rows.{Cache}
 use Rattle.vec_scan.specs.Image.{Image}
 use Rattle.cell_table.specs.Cells.{Table}
 use Rattle.storage_map.specs.Slots.{Slots}
+use Rattle.adb_model.specs.State.{Lease}
 
 -- what a cell has where it is filled
 abbrev pub Shared : Type 0
@@ -22,6 +23,8 @@ pub record Parts : Type 0 where
   pub roots : List ℕ
   -- what newer roots up to this slot shadow may be dropped
   pub cleaned : ℕ
+  -- in order of leasing
+  pub leases : List Lease
   -- the storages, and the most bytes that they may have together
   pub cells : Table Shared
   -- of each slot the storage in use, and the one that is being filled
@@ -31,4 +34,4 @@ pub record Parts : Type 0 where
 
 -- those of a new book, of which all cells are free
 abbrev pub new_parts : Table Shared → ℕ → Parts
-new_parts cells id = record { index = []; cache = []; roots = []; cleaned = 0; cells = cells; map = []; next_id = id }
+new_parts cells id = record { index = []; cache = []; roots = []; cleaned = 0; leases = []; cells = cells; map = []; next_id = id }

@@ -74,6 +74,7 @@ pub record Reflects (p : Parts) (m : State) : Type 0 where
   pub rows : (s : ℕ) → rows p.cache s ≡ unflushed_rows m s
   pub roots : p.roots ≡ m.roots
   pub cleaned : p.cleaned ≡ m.cleaned
+  pub leases : p.leases ≡ m.leases
   pub cells : CellsFit m p.cells.cells
   pub slots : SlotsFit m p.cells.cells p.map
   pub counts : counts_in p ≡ counts_of m

@@ -34,7 +34,7 @@ use adb_model::{
 };
 
 /// A law: parts that stand for a history and then reflect what a call's step makes of its state, stand for
-/// the history with that call. The pass is free where the step is the same for every pass.
+/// the history with that call. The pass is free where the step is the same for every pass, and where the call is refused.
 pub fn step_stands()
     ensures of_pass { (old new : Parts) (m0 : State) (h : List machine.Event) (pass : ℕ) (call : machine.Call) (reply : machine.Reply)
         → IsPass pass → Stands old m0 h → (step (state_after m0 h) pass call).1 ≡ reply → Reflects new (step (state_after m0 h) pass call).0
@@ -43,6 +43,9 @@ pub fn step_stands()
         → (step (state_after m0 h) pass call).0 ≡ (step (state_after m0 h) 1 call).0
         → Stands old m0 h → (step (state_after m0 h) pass call).1 ≡ reply → Reflects new (step (state_after m0 h) pass call).0
         → After new m0 h pass call (Some reply) }
+    ensures refused { (p : Parts) (m0 : State) (h : List machine.Event) (pass : ℕ) (call : machine.Call) (refusal : machine.Refusal)
+        → Stands p m0 h → (step (state_after m0 h) pass call).0 ≡ state_after m0 h → (step (state_after m0 h) pass call).1 ≡ Refused refusal
+        → After p m0 h pass call (Some (Refused refusal)) }
 {
     states_are_sound();
     named_pairs_stand_once();

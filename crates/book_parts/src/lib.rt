@@ -5,15 +5,22 @@
 //! law takes one call of a book: from what the call did to the parts it tells for which history they stand then.
 #![tactic(auto)]
 
+mod cleaning;
 mod flush_events;
 mod flushing;
 mod laws;
+mod leasing;
 mod pinning;
 
+pub use cleaning::{
+    crowded_keys_reflect, dropped_version_reflects, reclaim_stands, retired_storage_reflects,
+    stored_versions_stand,
+};
 pub use flush_events::{flush_begin_stands, flush_end_stands};
 pub use flushing::{begun_flush_reflects, ended_flush_reflects, open_flush_reflects};
 pub use laws::{
     load_stands, new_parts_stand, next_key_stands, pins_are_held, purge_stands, root_stands,
     stats_stand, step_stands, store_stands, sums_fit,
 };
+pub use leasing::{lease_stands, raise_stands};
 pub use pinning::{pins_stay, stored_load_stands, unpin_stands};

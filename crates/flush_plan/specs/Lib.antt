@@ -1,3 +1,4 @@
 pub mod Jobs
 pub mod Causes
 pub mod Moving
+pub mod States

@@ -1,21 +1,28 @@
-ghost use Rattle.std.specs.Prelude.{◌≡◌, ◌<◌, ℕ, List, true, false, None, Some, length, IfOk, IfErr, OnErr};
+ghost use Rattle.std.specs.Prelude.{◌≡◌, ◌+◌, ◌<◌, ℕ, List, true, false, None, Some, length, IfOk, IfErr, OnOk, OnErr, IsTrue};
 ghost use Rattle.accounts_index.specs.Index.{kept};
 ghost use Rattle.append_vec.specs.Filled.{KeysDiffer};
 ghost use Rattle.adb_model.specs.Lists.{among};
 ghost use Rattle.adb_model.specs.Presence.{has_row};
-ghost use Rattle.adb_model.specs.Storages.{bytes_of};
+ghost use Rattle.adb_model.specs.State.{State};
+ghost use Rattle.adb_model.specs.Storages.{bytes_of, open_flush};
+ghost use Rattle.adb_model.specs.Flush.{flush_rows, has_cached_key, with_filling};
+ghost use Rattle.adb_model.specs.Sound.{IsSound};
+ghost use Rattle.book_parts.specs.Parts.{Parts};
+ghost use Rattle.book_parts.specs.Reflects.{Reflects};
 ghost use Rattle.book_parts.specs.Changes.{SameIndex};
 ghost use Rattle.book_parts.specs.Flushes.{FlushBegins, SameSlots};
 ghost use Rattle.cell_table.specs.Cells.{Begins, IsUnused};
 ghost use Rattle.storage_map.specs.Slots.{live_at, begun_at, begun_with, Becomes};
 ghost use Rattle.write_cache.specs.Rows.{rows};
 ghost use Rattle.flush_plan.specs.Causes.{IsCauseOf};
+ghost use Rattle.flush_plan.specs.States.{having, with_next};
 
 use crate::fault::BeginFault;
 use crate::job::FlushJob;
 use crate::rows::{cached_rows, expect_rows, stored_bytes, unexpect_rows};
 use accounts_index::AccountsIndex;
 use adb_model::Slot;
+use book_parts::begun_flush_reflects;
 use cell_table::{Cell, CellTable};
 use std::alloc::Global;
 use std::sync::Arc;
@@ -28,6 +35,9 @@ use write_cache::WriteCache;
 ///
 /// # Errors
 /// What the cells refuse so many bytes for, `Full` before `NoCell`; else `NoMemory`. All parts are as they were.
+///
+/// Parts that reflect a state in which the slot has a cached key and no open flush then reflect the one in which the
+/// flush has begun.
 pub fn begin(
     alloc: Global,
     slot: Slot,
@@ -48,7 +58,13 @@ pub fn begin(
     ensures index { OnErr result (SameIndex index.old index.new) }
     ensures cells { OnErr result (cells.new ≡ cells.old) }
     ensures map { OnErr result (SameSlots map.old map.new) }
+    ensures begun { (p : Parts) (m : State) → IsSound m → Reflects (with_next (having p cache.now index.old cells.old map.old) id) m
+        → IsTrue (has_cached_key m slot) → open_flush m slot ≡ None
+        → OnOk result (Reflects (with_next (having p cache.now index.new cells.new map.new) (id + 1)) (with_filling m slot (flush_rows m slot))) }
+    ensures kept { (p : Parts) (m : State) → Reflects (with_next (having p cache.now index.old cells.old map.old) id) m
+        → OnErr result (Reflects (with_next (having p cache.now index.new cells.new map.new) id) m) }
 {
+    begun_flush_reflects();
     let bytes = stored_bytes(cache, slot);
     cells.check(bytes)?;
     // The bytes fit the limit, and so a u64.

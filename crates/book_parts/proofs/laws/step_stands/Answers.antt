@@ -33,3 +33,16 @@ returns-clause-of_any c = λ old new m0 h pass call reply same st is r.
       bytes = subst HaveBytes (sym there) (c.rows_have_bytes.ensures.step m 1 call st.bytes);
       parts = subst (Reflects new) (sym there) (subst (Reflects new) same r);
     }
+
+pub returns-clause-refused : goal.returns-clause-refused
+returns-clause-refused c = λ p m0 h pass call refusal st same is.
+    let m = state_after m0 h in
+    let e : machine.Event = record { pass = pass; call = call; reply = machine.Refused refusal } in
+    let there = c.histories_go_on.ensures.state m0 h e ∙ same in
+    record {
+      legal = c.histories_go_on.ensures.legal m0 h e st.legal (sym is);
+      sound = subst IsSound (sym there) st.sound;
+      once = subst IsOnce (sym there) st.once;
+      bytes = subst HaveBytes (sym there) st.bytes;
+      parts = subst (Reflects p) (sym there) st.parts;
+    }
