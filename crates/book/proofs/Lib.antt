@@ -1,4 +1,5 @@
 mod Images
+mod Leases
 mod Pins
 mod Rows
 mod Slots

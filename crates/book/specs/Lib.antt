@@ -2,3 +2,4 @@ pub mod Inside
 pub mod Pinned
 pub mod Replies
 pub mod Flushing
+pub mod Leasing

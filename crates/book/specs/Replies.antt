@@ -1,8 +1,9 @@
 -- The machine's reply for what a call answered; for want of memory there is none.
-use Rattle.std.specs.Prelude.{ℕ, Option, Some, None, option_map, Result, Ok, Err}
+use Rattle.std.specs.Prelude.{ℕ, List, Option, Some, None, option_map, Result, Ok, Err}
+use Rattle.std.specs.Option.{option_map_or}
 use Rattle.vec_scan.specs.Seal.{row_there}
 use Rattle.adb_model.specs.Call as machine
-use Rattle.adb_model.specs.Call.{Reply, Done, Refused, Purged, NotFound}
+use Rattle.adb_model.specs.Call.{Reply, Done, Refused, Purged, NotFound, Raised, Reclaimed, NothingLeft}
 use Rattle.flush_plan.specs.Jobs.{Job}
 use Rattle.book.specs.declared.refusals.FlushRefusal.{FlushRefusal}
 use Rattle.book.specs.declared.refusals.FlushRefusal.TheVariants as flushes
@@ -14,6 +15,11 @@ use Rattle.book.specs.declared.refusals.Rooted.{Rooted}
 use Rattle.book.specs.declared.refusals.LoadRefusal.{LoadRefusal}
 use Rattle.book.specs.declared.refusals.LoadRefusal.TheVariants as loads
 use Rattle.book.specs.declared.refusals.NotPinned.{NotPinned}
+use Rattle.book.specs.declared.refusals.LeaseRefusal.{LeaseRefusal}
+use Rattle.book.specs.declared.refusals.LeaseRefusal.TheVariants as leases
+use Rattle.book.specs.declared.refusals.NotLeased.{NotLeased}
+use Rattle.book.specs.declared.refusals.RaiseRefusal.{RaiseRefusal}
+use Rattle.book.specs.declared.refusals.RaiseRefusal.TheVariants as raises
 use Rattle.book.specs.declared.loading.Found.{Found}
 use Rattle.book.specs.declared.loading.FoundAt.{FoundAt}
 use Rattle.book.specs.declared.loading.FoundAt.TheVariants.{Cached, Stored}
@@ -52,6 +58,27 @@ load_reply (Err loads.NoMemory) = None
 abbrev pub unpin_reply : {U : Type 0} → Result U NotPinned → Reply
 unpin_reply (Ok u) = Done
 unpin_reply (Err refusal) = Refused (machine.NotPinned refusal.id)
+
+-- to a lease
+abbrev pub lease_reply : {U : Type 0} → Result U LeaseRefusal → Option Reply
+lease_reply (Ok u) = Some Done
+lease_reply (Err (leases.ViewTooOld max_root cleaned)) = Some (Refused (machine.ViewTooOld max_root cleaned))
+lease_reply (Err leases.NoMemory) = None
+
+-- to a pass that lets go of views, which wants no memory
+abbrev pub end_lease_reply : {U : Type 0} → Result U NotLeased → Reply
+end_lease_reply (Ok u) = Done
+end_lease_reply (Err refusal) = Refused (machine.NotLeased refusal.max_root)
+
+-- to a raise, which wants no memory
+abbrev pub raise_reply : Result ℕ RaiseRefusal → Reply
+raise_reply (Ok cleaned) = Raised cleaned
+raise_reply (Err (raises.PastRoot upto newest)) = Refused (machine.PastRoot upto newest)
+raise_reply (Err (raises.Leased upto least)) = Refused (machine.Leased upto least)
+
+-- to a reclaim, which wants no memory: the last key taken, or that there was none
+abbrev pub reclaim_reply : Option (List ℕ) → Reply
+reclaim_reply key = option_map_or Reclaimed key NothingLeft
 
 -- to a flush that was to begin
 abbrev pub flush_reply : Result Job FlushRefusal → Option Reply

@@ -1,7 +1,8 @@
-ghost use Rattle.std.specs.Prelude.{◌≡◌, ◌≤◌, ℕ, List, [], Some, option_map, IfOk, IfSome};
+ghost use Rattle.std.specs.Prelude.{◌≡◌, ◌<◌, ◌≤◌, ℕ, List, [], length, Some, option_map, IfOk, IfSome};
+ghost use Rattle.accounts_index.specs.Index.{crowded_after};
 ghost use Rattle.adb_model.specs.State.{State, fresh};
 ghost use Rattle.adb_model.specs.Call as machine;
-ghost use Rattle.adb_model.specs.History.{state_after};
+ghost use Rattle.adb_model.specs.History.{state_after, IsPass};
 ghost use Rattle.adb_model.specs.Seen.{counts_of};
 ghost use Rattle.append_vec.specs.Filled.{Fills};
 ghost use Rattle.flush_plan.specs.Jobs.{IsOpenJob};
@@ -9,23 +10,27 @@ ghost use Rattle.book_parts.specs.Stands.{Stands, After, with_event, AfterWithPi
 ghost use Rattle.book_parts.specs.Pins.{HoldsPins};
 ghost use Rattle.book_parts.specs.Keys.{IsNextKey};
 ghost use Rattle.pass_pins.specs.Pins.{without_one};
-ghost use Rattle.book.specs.Replies.{flush_reply, store_reply, root_reply, purge_reply, load_reply, unpin_reply};
+ghost use Rattle.book.specs.Replies.{store_reply, root_reply, purge_reply, load_reply, unpin_reply, lease_reply, end_lease_reply, raise_reply, reclaim_reply, flush_reply};
 ghost use Rattle.book.specs.Pinned.{IsThere, pins_after};
 
 use crate::flushing::{spent, why_not};
+use crate::leasing::{self, Lease, why_not_raised};
 use crate::loading::{Found, FoundAt, latest};
 use crate::pinning::{Cells, Held, pin};
 use crate::purging::leave;
-use crate::refusals::{FlushRefusal, LoadRefusal, NotPinned, RootRefusal, Rooted, StoreRefusal};
+use crate::refusals::{
+    FlushRefusal, LeaseRefusal, LoadRefusal, NotLeased, NotPinned, RaiseRefusal, RootRefusal,
+    Rooted, StoreRefusal,
+};
 use crate::rooting::rooted_by;
 use crate::storing::enter;
 use accounts_index::AccountsIndex;
 use adb_model::{Account, Key, Slot, Stats, View};
 use append_vec::{Filled, filled_rows_are_the_same};
 use book_parts::{
-    flush_begin_stands, flush_end_stands, load_stands, new_parts_stand, next_key_stands,
-    purge_stands, root_stands, stats_stand, store_stands, stored_load_stands, sums_fit,
-    unpin_stands,
+    flush_begin_stands, flush_end_stands, lease_stands, load_stands, new_parts_stand,
+    next_key_stands, purge_stands, raise_stands, reclaim_stands, root_stands, stats_stand,
+    store_stands, stored_load_stands, sums_fit, unpin_stands,
 };
 use cell_table::CellTable;
 use flush_plan::FlushJob;
@@ -53,6 +58,8 @@ pub struct Book {
     roots: RootSet,
     /// Versions that newer roots up to this slot hide may be dropped.
     cleaned: Slot,
+    /// Of passes that hold on to older views, in the order in which they began.
+    leases: Vec<Lease>,
     /// The storages, each in a cell.
     cells: Cells,
     /// Of each slot the storage in use, and the one that is being filled.
@@ -88,6 +95,7 @@ impl Book {
             cache: WriteCache::new(alloc),
             roots: RootSet::new(alloc),
             cleaned: 0,
+            leases: Vec::new(alloc),
             cells: CellTable::new(alloc, budget, MAX_STORAGES),
             map: StorageMap::new(alloc),
             next_id: first_id,
@@ -226,6 +234,81 @@ impl Book {
         };
         self.cells.unpin(cell);
         Ok(())
+    }
+
+    /// A pass holds on to the views whose roots end at `max_root` or later: what they see isn't cleaned until the pass
+    /// lets go.
+    ///
+    /// # Errors
+    /// `ViewTooOld` exactly where that slot is below the one up to which was cleaned.
+    pub fn lease(&mut self, pass: u64, max_root: u64) -> Result<(), LeaseRefusal>
+        requires { IsPass pass }
+        ensures { (m0 : State) (h : List machine.Event) → Stands self.old m0 h
+            → After self.new m0 h pass (machine.Lease max_root) (lease_reply result) }
+    {
+        lease_stands();
+        if max_root < self.cleaned {
+            let cleaned = self.cleaned;
+            return Err(LeaseRefusal::ViewTooOld { max_root, cleaned });
+        }
+        leasing::put(&mut self.leases, pass, max_root)?;
+        Ok(())
+    }
+
+    /// A pass lets go of such views: the last of its leases of this `max_root` leaves. It takes no memory.
+    ///
+    /// # Errors
+    /// `NotLeased` exactly where the pass has no such lease.
+    pub fn end_lease(&mut self, pass: u64, max_root: u64) -> Result<(), NotLeased>
+        requires { IsPass pass }
+        ensures { (m0 : State) (h : List machine.Event) → Stands self.old m0 h
+            → After self.new m0 h pass (machine.EndLease max_root) (Some (end_lease_reply result)) }
+    {
+        lease_stands();
+        if !leasing::take(&mut self.leases, pass, max_root) {
+            return Err(NotLeased { max_root });
+        }
+        Ok(())
+    }
+
+    /// Lets versions be dropped that roots up to this slot hide, and says up to which slot that is so then: this one,
+    /// or an earlier call's that was higher. It takes no memory.
+    ///
+    /// # Errors
+    /// `PastRoot` exactly where there is no root, or the slot is above the newest; else `Leased` exactly where a lease
+    /// is of views below it, of which it names the least.
+    pub fn raise(&mut self, upto: Slot) -> Result<Slot, RaiseRefusal>
+        ensures { (m0 : State) (h : List machine.Event) (pass : ℕ) → Stands self.old m0 h
+            → After self.new m0 h pass (machine.Raise upto) (Some (raise_reply result)) }
+    {
+        raise_stands();
+        if let Some(refusal) = why_not_raised(&self.roots, &self.leases, upto) {
+            return Err(refusal);
+        }
+        self.cleaned = self.cleaned.max(upto);
+        Ok(self.cleaned)
+    }
+
+    /// Drops what nobody can need any more of the first `most` crowded keys above another, or of all keys: versions
+    /// that a root up to the cleaned slot hides, and then tombs that hide nothing. Storages of which no row is found
+    /// any more retire. Gives the last of these keys, from which the next call goes on. It takes no memory.
+    pub fn reclaim(&mut self, after: Option<&Key>, most: usize) -> Option<Key>
+        requires least { 1 ≤ most }
+        requires most { most ≤ 256 }
+        ensures stands { (m0 : State) (h : List machine.Event) (pass : ℕ) → Stands self.old m0 h
+            → After self.new m0 h pass (machine.Reclaim (option_map (λ k. k.now.0) after.entry) most) (Some (reclaim_reply (option_map (λ k. k.0) result))) }
+        ensures fewer { IfSome result (λ key. length (crowded_after self.new.index (Some key.0)) < length (crowded_after self.old.index (option_map (λ k. k.now.0) after.entry))) }
+    {
+        reclaim_stands();
+        clean_plan::reclaim(
+            after,
+            most,
+            self.cleaned,
+            &self.roots,
+            &mut self.index,
+            &mut self.cells,
+            &mut self.map,
+        )
     }
 
     /// Begins to flush a root: its rows in the write cache are to go to a new storage, which the job is to be

@@ -4,7 +4,10 @@
 #![tactic(auto)]
 
 mod book;
+#[cfg(test)]
+mod cleaning_tests;
 mod flushing;
+mod leasing;
 mod loading;
 mod pinning;
 mod purging;
@@ -16,4 +19,7 @@ mod tests;
 
 pub use book::{Book, MAX_STORAGES};
 pub use loading::{Found, FoundAt};
-pub use refusals::{FlushRefusal, LoadRefusal, NotPinned, RootRefusal, Rooted, StoreRefusal};
+pub use refusals::{
+    FlushRefusal, LeaseRefusal, LoadRefusal, NotLeased, NotPinned, RaiseRefusal, RootRefusal,
+    Rooted, StoreRefusal,
+};

@@ -46,6 +46,30 @@ pub struct NotPinned {
     pub id: u64,
 }
 
+/// Why no lease began.
+#[derive(Clone, Copy, Debug, PartialEq, Eq)]
+pub enum LeaseRefusal {
+    /// The views' roots end below the slot up to which was cleaned.
+    ViewTooOld { max_root: u64, cleaned: Slot },
+    /// Want of memory.
+    NoMemory,
+}
+
+/// The pass has no lease of the views whose roots end at this slot.
+#[derive(Clone, Copy, Debug, PartialEq, Eq)]
+pub struct NotLeased {
+    pub max_root: u64,
+}
+
+/// Why no more than before may be cleaned.
+#[derive(Clone, Copy, Debug, PartialEq, Eq)]
+pub enum RaiseRefusal {
+    /// There is no root, or the slot is above the newest.
+    PastRoot { upto: Slot, newest: Option<Slot> },
+    /// A pass holds on to views below the slot; this is the least of their greatest roots.
+    Leased { upto: Slot, least: u64 },
+}
+
 /// Why no flush began.
 #[derive(Clone, Copy, Debug, PartialEq, Eq)]
 pub enum FlushRefusal {
@@ -95,6 +119,17 @@ impl From<AllocError> for LoadRefusal {
 
     fn from(_: AllocError) -> Self {
         LoadRefusal::NoMemory
+    }
+}
+
+impl From<AllocError> for LeaseRefusal {
+    ghost use Rattle.std.specs.Prelude.{◌≡◌};
+    ghost use Rattle.book.specs.declared.refusals.LeaseRefusal.TheVariants as leases;
+
+    ghost from_gives = { λ _ e. e ≡ leases.NoMemory };
+
+    fn from(_: AllocError) -> Self {
+        LeaseRefusal::NoMemory
     }
 }
 

@@ -15,7 +15,8 @@ pub fn rooted_by(roots: &RootSet, slot: Slot) -> Option<Slot>
     }
 }
 
-fn newest(roots: &RootSet) -> Option<Slot>
+/// The newest root.
+pub fn newest(roots: &RootSet) -> Option<Slot>
     ensures { result ≡ last roots.now }
 {
     roots.newest()

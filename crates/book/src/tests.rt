@@ -35,15 +35,18 @@ enum Answer {
     Key(u8),
 }
 
-const ALL: u64 = u64::MAX;
+/// The greatest root of a view of all roots.
+pub const ALL: u64 = u64::MAX;
 
-fn key(first: u8) -> Key {
+/// The key whose first byte is this.
+pub fn key(first: u8) -> Key {
     let mut bytes = [0; 32];
     bytes[0] = first;
     Key(bytes)
 }
 
-fn account(alloc: Global, lamports: u64) -> Result<Arc<Account>, Fail> {
+/// An account of so many lamports.
+pub fn account(alloc: Global, lamports: u64) -> Result<Arc<Account>, Fail> {
     match Account::new(lamports, [7; 32], true, 9, Vec::new(alloc)) {
         Ok(account) => Ok(Arc::new(alloc, account)?),
         Err(_) => Err("too long")?,
@@ -201,8 +204,8 @@ fn a_book_answers_as_the_rows_say(rt: HostRuntime) -> Result<(), Fail> {
     Ok(())
 }
 
-// Flushes a slot to its end, and says whether it could.
-fn flushed<R: AllocGlobal>(rt: &R, book: &mut Book, slot: u64) -> Result<bool, Fail> {
+/// Flushes a slot to its end, and says whether it could.
+pub fn flushed<R: AllocGlobal>(rt: &R, book: &mut Book, slot: u64) -> Result<bool, Fail> {
     book.has_history();
     match book.flush_begin(slot) {
         Ok(job) => {

@@ -16,7 +16,7 @@ given_up c m0 h pass st job_open =
     let p = seen c.self.inside in
     let job = c.args.job in
     let may = c.flush_end_stands.ensures.may p m0 h job.slot (storage_of job) st job_open in
-    c.flush_end_stands.ensures.dropped p m0 h pass job.slot may.0 (storage_of job) c.abort.new.index c.abort.new.cells c.abort.new.map st job_open may.1 (c.abort.ensures may.0 may.1)
+    c.flush_end_stands.ensures.dropped p m0 h pass job.slot may.0 (storage_of job) c.abort.new.index c.abort.new.cells c.abort.new.map st job_open may.1 (c.abort.ensures.parts may.0 may.1)
 
 pub invariant_of-self : goal.invariant_of-self
 invariant_of-self c =

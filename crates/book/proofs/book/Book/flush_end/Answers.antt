@@ -27,7 +27,7 @@ ended c m0 h pass st job_open =
       rows = c.filled_rows_are_the_same.ensures.same job.slot job.id job.rows sealed.value places fills may.1.differ;
     } in
     let ends = subst (λ (ps : List ℕ). FlushEnds job.slot may.0 job.rows sealed ps p.cache c.end.new.cache p.index c.end.new.index p.cells c.end.new.cells p.map c.end.new.map)
-    c.deref.ensures.value (c.end.ensures may.0 may.1) in
+    c.deref.ensures.value (c.end.ensures.parts may.0 may.1) in
     c.flush_end_stands.ensures.done p m0 h pass job.slot may.0 (storage_of job) sealed places c.end.new.cache c.end.new.index c.end.new.cells c.end.new.map st job_open may.1 image fills.at_places ends
 
 pub invariant_of-self : goal.invariant_of-self
