@@ -6,6 +6,7 @@ pub mod Found
 pub mod Asked
 pub mod Streams
 pub mod Histories
+pub mod NextCalls
 pub mod LineCalls
 pub mod Turns
 pub mod Scripts

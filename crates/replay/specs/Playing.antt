@@ -8,20 +8,21 @@ use Rattle.adb_model.specs.Call.{Call, Reply, Event}
 use Rattle.adb_model.specs.History.{IsLegal}
 use Rattle.adb_model.specs.Plays as machine
 use Rattle.adb_model.specs.Plays.{Follow}
-use Rattle.script.specs.Said.{Order, Plain, Get, Flush, Line, Said}
+use Rattle.script.specs.Said.{Order, Plain, Get, Flush, Clean, Line, Said}
 use Rattle.script.specs.Text.{text_of, journal_of}
-use Rattle.replay.specs.Standing.{IsLane, Lanes, PlayerStands}
+use Rattle.replay.specs.Standing.{IsLane, IsOfFewKeys, Lanes, PlayerStands}
 use Rattle.replay.specs.Journaled.{start_of, PlayedAll}
 
--- one to sixteen workers fill a flush's storage
-abbrev pub HasWorkers : Order → Type 0
-HasWorkers (Plain call) = Unit {0}
-HasWorkers (Get view key) = Unit {0}
-HasWorkers (Flush slot workers) = (1 ≤ workers) × (workers ≤ 16)
+-- one to sixteen workers fill a flush's storage, and a reclaim is asked for 1 to 256 keys
+abbrev pub IsWithinLimits : Order → Type 0
+IsWithinLimits (Plain call) = IsOfFewKeys call
+IsWithinLimits (Get view key) = Unit {0}
+IsWithinLimits (Flush slot workers) = (1 ≤ workers) × (workers ≤ 16)
+IsWithinLimits (Clean upto) = Unit {0}
 
--- the line is of a lane, and its flush has workers
+-- the line is of a lane, and its order is within limits
 abbrev pub IsPlayable : Line → Type 0
-IsPlayable line = IsLane line.lane × HasWorkers line.order
+IsPlayable line = IsLane line.lane × IsWithinLimits line.order
 
 -- the script's lines were played, and the player stands for their history
 pub record HasPlayed (p : Lanes) (old new : Option (List ℕ)) (said : Said) : Type 0 where

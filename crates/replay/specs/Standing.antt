@@ -1,5 +1,5 @@
 -- What a player stands for: a history of its book, the pins of its lanes, and the flushes that it has begun.
-use Rattle.std.specs.Prelude.{◌≡◌, ℕ, ◌+◌, ◌≤◌, ◌==◌, Bool, List, [], ◌++◌, length, map, find, count_by, Option, Some, None, option_map, Result, Ok, Err, IsFalse, All, slice_get}
+use Rattle.std.specs.Prelude.{◌≡◌, ℕ, ◌+◌, ◌<◌, ◌≤◌, ◌==◌, Bool, List, [], ◌++◌, length, map, find, count_by, Option, Some, None, option_map, Result, Ok, Err, IsFalse, All, slice_get}
 use Rattle.std.specs.declared.alloc.AllocError.{AllocError}
 use Rattle.adb_model.specs.State.{State}
 use Rattle.adb_model.specs.Storages.{is_filling, open_flush}
@@ -8,6 +8,7 @@ use Rattle.adb_model.specs.History.{state_after}
 use Rattle.adb_model.specs.Seen.{call_of, reply_of}
 use Rattle.adb_model.specs.declared.call.Call.{Call}
 use Rattle.adb_model.specs.declared.call.Reply.{Reply}
+use Rattle.accounts_index.specs.Index.{crowded_after}
 use Rattle.pass_pins.specs.Pins.{Pins}
 use Rattle.book_parts.specs.Parts.{Parts}
 use Rattle.book_parts.specs.Pins.{HoldsPins}
@@ -17,6 +18,16 @@ use Rattle.flush_plan.specs.Jobs.{Job, storage_of}
 -- the number of a lane
 abbrev pub IsLane : ℕ → Type 0
 IsLane lane = (1 ≤ lane) × (lane ≤ 64)
+
+-- a reclaim is asked for 1 to 256 keys
+abbrev pub IsOfFewKeys : machine.Call → Type 0
+IsOfFewKeys (machine.Reclaim after most) = (1 ≤ most) × (most ≤ 256)
+IsOfFewKeys call = Unit {0}
+
+-- where a reclaim took a key, fewer crowded keys are above that one than were above the one it went on from
+abbrev pub FewerLeft : machine.Call → machine.Reply → Parts → Parts → Type 0
+FewerLeft call reply old new = (after : Option (List ℕ)) (most : ℕ) (key : List ℕ) → call ≡ machine.Reclaim after most → reply ≡ machine.Reclaimed key
+    → length (crowded_after new.index (Some key)) < length (crowded_after old.index after)
 
 -- what contracts see of a player: its book, the pins of lane 1, of lane 2, and so on, and the flushes in hand
 pub record Lanes : Type 0 where

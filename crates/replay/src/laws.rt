@@ -15,14 +15,19 @@ ghost use Rattle.book.specs.declared.refusals.FlushRefusal.{FlushRefusal};
 ghost use Rattle.book.specs.Replies.{flush_reply};
 ghost use Rattle.replay.specs.Standing.{IsLane, Lanes, PlayerStands, is_of};
 
-use adb_model::{flushes_stay_open, histories_go_on, loads_are_given_back, pins_are_own};
+use adb_model::{
+    flushes_stay_open, histories_go_on, loads_are_given_back, pins_are_own, reclaims_go_on,
+};
 use book_parts::flush_end_stands;
 
-/// A law: how a player stands after a call of a lane that begins, ends and gives up no flush.
+/// A law: how a player stands after a call of a lane that begins, ends and gives up no flush. A reclaim is none.
 pub fn lanes_go_on()
     ensures steady { (p : Lanes) (new : Parts) (start : State) (h : List machine.Event) (pass : ℕ) (call : machine.Call) (reply : Option machine.Reply)
         → pins_stay call ≡ true → storages_stay call ≡ true → PlayerStands p start h → After new start h pass call reply
         → PlayerStands (record p { book = new }) start (with_event h pass call reply) }
+    ensures reclaimed { (p : Lanes) (new : Parts) (start : State) (h : List machine.Event) (pass : ℕ) (after : Option (List ℕ)) (most : ℕ) (reply : Option machine.Reply)
+        → PlayerStands p start h → After new start h pass (machine.Reclaim after most) reply
+        → PlayerStands (record p { book = new }) start (with_event h pass (machine.Reclaim after most) reply) }
     ensures of_lane { (p : Lanes) (new : Parts) (after : Pins) (start : State) (h : List machine.Event) (lane : ℕ) (call : machine.Call) (reply : Option machine.Reply)
         → storages_stay call ≡ true → IsLane lane → PlayerStands p start h → after.pass ≡ lane → AfterWithPins new after start h call reply
         → PlayerStands (record p { book = new; pins = set p.pins (lane - 1) after }) start (with_event h lane call reply) }
@@ -35,6 +40,7 @@ pub fn lanes_go_on()
     histories_go_on();
     pins_are_own();
     flushes_stay_open();
+    reclaims_go_on();
     loads_are_given_back();
 }
 

@@ -2,14 +2,14 @@ ghost use Rattle.std.specs.Prelude.{◌≤◌, ℕ, List, All, IfOk, OnErr, map}
 ghost use Rattle.adb_model.specs.State.{State};
 ghost use Rattle.adb_model.specs.Call as machine;
 ghost use Rattle.adb_model.specs.History.{state_after};
-ghost use Rattle.adb_model.specs.Seen.{call_of};
+ghost use Rattle.adb_model.specs.Seen.{call_of, reply_of};
 ghost use Rattle.book_parts.specs.Stands.{Stands, with_event};
-ghost use Rattle.replay.specs.Standing.{IsLane, IsQuiet, PlayerStands, HasHistory, HaveNoPins, HasMade, HasMadeFirst, asked, told};
+ghost use Rattle.replay.specs.Standing.{IsLane, IsOfFewKeys, IsQuiet, PlayerStands, HasHistory, HaveNoPins, HasMade, HasMadeFirst, FewerLeft, asked, told};
 
 use crate::flushes;
 use crate::laws::lanes_go_on;
 use crate::passes::{load, unpin};
-use crate::replies::{purged, rooted, stored};
+use crate::replies::{lease_ended, leased, purged, raised, reclaimed, rooted, stored};
 use adb_model::{Call, Reply};
 use book::Book;
 use flush_plan::FlushJob;
@@ -53,9 +53,11 @@ fn step_filled<R: AllocGlobal>(
     requires lane { IsLane lane }
     requires some_worker { 1 ≤ workers }
     requires few_workers { workers ≤ 16 }
+    requires few_keys { IsOfFewKeys (call_of call.now) }
     requires some { HasHistory (record { book = book.old; pins = pins.old.items; jobs = jobs.old.items }) }
-    ensures { (start : State) (h : List machine.Event) → PlayerStands (record { book = book.old; pins = pins.old.items; jobs = jobs.old.items }) start h
+    ensures stands { (start : State) (h : List machine.Event) → PlayerStands (record { book = book.old; pins = pins.old.items; jobs = jobs.old.items }) start h
         → PlayerStands (record { book = book.new; pins = pins.new.items; jobs = jobs.new.items }) start (with_event h lane (call_of call.now) (told result)) }
+    ensures fewer { IfOk result (λ reply. FewerLeft (call_of call.now) (reply_of reply) book.old book.new) }
 {
     lanes_go_on();
     match call {
@@ -64,9 +66,13 @@ fn step_filled<R: AllocGlobal>(
         Call::Purge { slot } => purged(book.purge(*slot)),
         Call::Load { view, key } => load(rt.alloc(), book, pins, lane, view, key),
         Call::Unpin { id } => unpin(book, pins, lane, *id),
+        Call::Lease { max_root } => leased(book.lease(lane, *max_root)),
+        Call::EndLease { max_root } => lease_ended(book.end_lease(lane, *max_root)),
         Call::FlushBegin { slot } => flushes::begin(book, jobs, *slot),
         Call::FlushEnd { slot } => flushes::end(rt, book, jobs, *slot, workers),
         Call::FlushAbort { slot } => flushes::abort(book, jobs, *slot),
+        Call::Raise { upto } => raised(book.raise(*upto)),
+        Call::Reclaim { after, most } => reclaimed(book.reclaim(after.as_ref(), *most)),
         Call::Stats => Ok(Reply::Counted {
             stats: book.stats(),
         }),
@@ -85,6 +91,13 @@ impl Player {
         Ok(Player { book, pins, jobs })
     }
 
+    /// A law: each player stands for some history.
+    pub(crate) fn has_history(&self)
+        ensures { HasHistory self.now }
+    {
+        let _ = &self.pins;
+    }
+
     /// Makes one event, and gives its reply. After want of memory nothing has changed.
     pub fn step<R: AllocGlobal>(
         &mut self,
@@ -92,7 +105,8 @@ impl Player {
         lane: u64,
         call: &Call,
     ) -> Result<Reply, AllocError>
-        requires { IsLane lane }
+        requires lane { IsLane lane }
+        requires few_keys { IsOfFewKeys (call_of call.now) }
         ensures { (start : State) (history : List machine.Event) → PlayerStands self.old start history
             → PlayerStands self.new start (with_event history lane (call_of call.now) (told result)) }
     {
@@ -111,8 +125,10 @@ impl Player {
         requires lane { IsLane lane }
         requires some_worker { 1 ≤ workers }
         requires few_workers { workers ≤ 16 }
-        ensures { (start : State) (history : List machine.Event) → PlayerStands self.old start history
+        requires few_keys { IsOfFewKeys (call_of call.now) }
+        ensures stands { (start : State) (history : List machine.Event) → PlayerStands self.old start history
             → PlayerStands self.new start (with_event history lane (call_of call.now) (told result)) }
+        ensures fewer { IfOk result (λ reply. FewerLeft (call_of call.now) (reply_of reply) self.old.book self.new.book) }
     {
         step_filled(
             rt,
@@ -132,7 +148,8 @@ impl Player {
         rt: &R,
         calls: &[(u64, Call)],
     ) -> Result<Vec<Reply>, AllocError>
-        requires { All (λ c. IsLane c.0) calls.now }
+        requires lanes { All (λ c. IsLane c.0) calls.now }
+        requires few_keys { All (λ c. IsOfFewKeys (call_of c.1)) calls.now }
         ensures ok { (start : State) (history : List machine.Event) → PlayerStands self.old start history
             → IfOk result (λ replies. HasMade self.new start history (map asked calls.now) replies.items) }
         ensures err { (start : State) (history : List machine.Event) → PlayerStands self.old start history

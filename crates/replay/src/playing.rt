@@ -1,4 +1,4 @@
-ghost use Rattle.std.specs.Prelude.{◌≡◌, ◌≤◌, ◌⊎◌, ℕ, List, [], All, map, OnOk, OnErr, IfOk, IsErrOf, Option, Some, None, option_map};
+ghost use Rattle.std.specs.Prelude.{◌≡◌, ◌≤◌, ◌⊎◌, ℕ, List, [], All, map, OnOk, OnErr, IfOk, IfSome, IsErrOf, Option, Some, None, option_map};
 ghost use Rattle.adb_model.specs.State.{State, fresh};
 ghost use Rattle.adb_model.specs.Call as machine;
 ghost use Rattle.adb_model.specs.Plays.{next_call};
@@ -7,17 +7,20 @@ ghost use Rattle.script.specs.Grammar.{IsScript};
 ghost use Rattle.script.specs.Said.{line_played, order_played};
 ghost use Rattle.script.specs.Seen.{line_seen, order_seen, script_seen};
 ghost use Rattle.stream_io.specs.Stream.{Rose};
-ghost use Rattle.replay.specs.Standing.{IsLane, PlayerStands};
+ghost use Rattle.replay.specs.Standing.{IsLane, IsOfFewKeys, PlayerStands, FewerLeft};
 ghost use Rattle.replay.specs.Journaled.{PlayedAll, CutShort};
-ghost use Rattle.replay.specs.Playing.{HasWorkers, IsPlayable, HasPlayed, PlayedCall, CutCall, PlayedLine, CutLine};
+ghost use Rattle.replay.specs.Playing.{IsWithinLimits, IsPlayable, HasPlayed, PlayedCall, CutCall, PlayedLine, CutLine};
 ghost use Rattle.replay.specs.declared.playing.Stop.TheVariants as stops;
 
 use crate::player::Player;
-use adb_model::{Call, Place, Reply, histories_go_on};
+use adb_model::{Call, Place, Reply, histories_go_on, reclaims_go_on};
 use book::Book;
 use script::{JournalPrinter, Line, Order, Script};
 use std::alloc::{AllocError, Global};
 use stream_io::{Failed, Sink, write_whole};
+
+/// The most keys of one reclaim of a clean.
+const MOST_KEYS: usize = 256;
 
 /// Why a journal was not written to its end.
 #[derive(Clone, Copy, Debug, PartialEq, Eq)]
@@ -56,10 +59,12 @@ fn play_call<R: AllocGlobal, K: Sink>(
     requires lane { IsLane lane }
     requires some_worker { 1 ≤ workers }
     requires few_workers { workers ≤ 16 }
+    requires few_keys { IsOfFewKeys (call_of call.now) }
     ensures ok { (start : State) (history : List machine.Event) → PlayerStands player.old start history
         → IfOk result (λ reply. PlayedCall player.new start history (K.taken sink.old) (K.taken sink.new) lane (call_of call.now) (reply_of reply)) }
     ensures err { (start : State) (history : List machine.Event) → PlayerStands player.old start history
         → OnErr result (CutCall start history (K.taken sink.old) (K.taken sink.new) lane (call_of call.now)) }
+    ensures fewer { IfOk result (λ reply. FewerLeft (call_of call.now) (reply_of reply) player.old.book player.new.book) }
     ensures later { K.faults sink.old ≤ K.faults sink.new }
     ensures kept { OnOk result (K.faults sink.new ≡ K.faults sink.old) }
     ensures cause { IsErrOf result Stop.SinkFault → Rose (K.faults sink.old) (K.faults sink.new) }
@@ -74,7 +79,7 @@ fn play_call<R: AllocGlobal, K: Sink>(
 
 // How many workers fill the storage of an order's flush.
 fn workers_of(order: &Order) -> usize
-    requires { HasWorkers (order_seen order.now) }
+    requires { IsWithinLimits (order_seen order.now) }
     ensures least { 1 ≤ result }
     ensures most { result ≤ 16 }
 {
@@ -84,9 +89,10 @@ fn workers_of(order: &Order) -> usize
     }
 }
 
-// The call that an order asks for after the reply to its first one.
+// The call that an order asks for after the reply to its last one.
 fn call_after(order: &Order, reply: &Reply) -> Option<Call>
-    ensures { option_map call_of result ≡ next_call (order_played (order_seen order.now)) (Some (reply_of reply.now)) }
+    ensures few_keys { IfSome result (λ call. IsOfFewKeys (call_of call)) }
+    ensures call { option_map call_of result ≡ next_call (order_played (order_seen order.now)) (Some (reply_of reply.now)) }
 {
     match (order, reply) {
         (
@@ -98,6 +104,14 @@ fn call_after(order: &Order, reply: &Reply) -> Option<Call>
         ) => Some(Call::Unpin { id: *id }),
         (Order::Flush { slot, .. }, Reply::FlushBegun { .. }) => Some(Call::FlushEnd {
             slot: *slot,
+        }),
+        (Order::Clean { .. }, Reply::Raised { .. }) => Some(Call::Reclaim {
+            after: None,
+            most: MOST_KEYS,
+        }),
+        (Order::Clean { .. }, Reply::Reclaimed { key }) => Some(Call::Reclaim {
+            after: Some(*key),
+            most: MOST_KEYS,
         }),
         _ => None,
     }
@@ -113,6 +127,7 @@ fn play_from<R: AllocGlobal, K: Sink>(
     sink: &mut K,
 ) -> Result<(), Stop>
     requires line { IsPlayable (line_seen line.now) }
+    requires few_keys { IsOfFewKeys (call_of first.now) }
     requires first { next_call (order_played (order_seen line.now.order)) None ≡ Some (call_of first.now) }
     ensures ok { (start : State) (history : List machine.Event) → PlayerStands player.old start history
         → OnOk result (PlayedLine player.new start history (K.taken sink.old) (K.taken sink.new) (line_played (line_seen line.now))) }
@@ -123,15 +138,14 @@ fn play_from<R: AllocGlobal, K: Sink>(
     ensures cause { IsErrOf result Stop.SinkFault → Rose (K.faults sink.old) (K.faults sink.new) }
 {
     histories_go_on();
+    reclaims_go_on();
     let workers = workers_of(&line.order);
-    let reply = play_call(rt, player, line.lane, first, workers, printer, sink)?;
-    match call_after(&line.order, &reply) {
-        None => Ok(()),
-        Some(call) => {
-            play_call(rt, player, line.lane, &call, workers, printer, sink)?;
-            Ok(())
-        }
+    let mut reply = play_call(rt, player, line.lane, first, workers, printer, sink)?;
+    while let Some(call) = call_after(&line.order, &reply) {
+        player.has_history();
+        reply = play_call(rt, player, line.lane, &call, workers, printer, sink)?;
     }
+    Ok(())
 }
 
 // Makes the events of one line.
@@ -152,6 +166,7 @@ fn play_line<R: AllocGlobal, K: Sink>(
     ensures cause { IsErrOf result Stop.SinkFault → Rose (K.faults sink.old) (K.faults sink.new) }
 {
     histories_go_on();
+    reclaims_go_on();
     match &line.order {
         Order::Event(call) => play_from(rt, player, line, call, printer, sink),
         Order::Get { view, key } => {
@@ -161,6 +176,10 @@ fn play_line<R: AllocGlobal, K: Sink>(
         }
         Order::Flush { slot, .. } => {
             let call = Call::FlushBegin { slot: *slot };
+            play_from(rt, player, line, &call, printer, sink)
+        }
+        Order::Clean { upto } => {
+            let call = Call::Raise { upto: *upto };
             play_from(rt, player, line, &call, printer, sink)
         }
     }

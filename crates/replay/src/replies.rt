@@ -1,10 +1,13 @@
-ghost use Rattle.std.specs.Prelude.{◌≡◌, Some, Err};
+ghost use Rattle.std.specs.Prelude.{◌≡◌, Some, Err, option_map};
 ghost use Rattle.adb_model.specs.Seen.{reply_of};
-ghost use Rattle.book.specs.Replies.{store_reply, root_reply, purge_reply, load_reply, unpin_reply, flush_reply};
+ghost use Rattle.book.specs.Replies.{store_reply, root_reply, purge_reply, load_reply, unpin_reply, lease_reply, end_lease_reply, raise_reply, reclaim_reply, flush_reply};
 ghost use Rattle.replay.specs.Standing.{told};
 
-use adb_model::{Refusal, Reply};
-use book::{FlushRefusal, LoadRefusal, NotPinned, RootRefusal, Rooted, StoreRefusal};
+use adb_model::{Key, Refusal, Reply, Slot};
+use book::{
+    FlushRefusal, LeaseRefusal, LoadRefusal, NotLeased, NotPinned, RaiseRefusal, RootRefusal,
+    Rooted, StoreRefusal,
+};
 use std::alloc::AllocError;
 
 /// The reply to a call that changes nothing.
@@ -70,6 +73,50 @@ pub fn unpinned(answer: Result<(), NotPinned>) -> Result<Reply, AllocError>
     match answer {
         Ok(()) => Ok(Reply::Done),
         Err(NotPinned { id }) => refused(Refusal::NotPinned { id }),
+    }
+}
+
+/// The reply to a lease.
+pub fn leased(answer: Result<(), LeaseRefusal>) -> Result<Reply, AllocError>
+    ensures { told result ≡ lease_reply answer }
+{
+    match answer {
+        Ok(()) => Ok(Reply::Done),
+        Err(LeaseRefusal::ViewTooOld { max_root, cleaned }) => {
+            refused(Refusal::ViewTooOld { max_root, cleaned })
+        }
+        Err(LeaseRefusal::NoMemory) => Err(AllocError),
+    }
+}
+
+/// The reply to a pass that lets go of views.
+pub fn lease_ended(answer: Result<(), NotLeased>) -> Result<Reply, AllocError>
+    ensures { told result ≡ Some (end_lease_reply answer) }
+{
+    match answer {
+        Ok(()) => Ok(Reply::Done),
+        Err(NotLeased { max_root }) => refused(Refusal::NotLeased { max_root }),
+    }
+}
+
+/// The reply to a raise.
+pub fn raised(answer: Result<Slot, RaiseRefusal>) -> Result<Reply, AllocError>
+    ensures { told result ≡ Some (raise_reply answer) }
+{
+    match answer {
+        Ok(cleaned) => Ok(Reply::Raised { cleaned }),
+        Err(RaiseRefusal::PastRoot { upto, newest }) => refused(Refusal::PastRoot { upto, newest }),
+        Err(RaiseRefusal::Leased { upto, least }) => refused(Refusal::Leased { upto, least }),
+    }
+}
+
+/// The reply to a reclaim.
+pub fn reclaimed(last: Option<Key>) -> Result<Reply, AllocError>
+    ensures { told result ≡ Some (reclaim_reply (option_map (λ k. k.0) last)) }
+{
+    match last {
+        Some(key) => Ok(Reply::Reclaimed { key }),
+        None => Ok(Reply::NothingLeft),
     }
 }
 

@@ -1,4 +1,6 @@
-ghost use Rattle.std.specs.Prelude.{◌<◌};
+ghost use Rattle.std.specs.Prelude.{◌<◌, IfOk};
+ghost use Rattle.adb_model.specs.Seen.{call_of};
+ghost use Rattle.replay.specs.Standing.{IsOfFewKeys};
 
 use crate::{Player, run_replay};
 use adb_model::{Account, Call, Key, Refusal, Reply, Slot, View, plain_answer};
@@ -41,7 +43,9 @@ fn any_account(alloc: Global, numbers: &mut Numbers) -> Result<Arc<Account>, Fai
 }
 
 // One call, most often a store or a load.
-fn any_call(alloc: Global, numbers: &mut Numbers) -> Result<Call, Fail> {
+fn any_call(alloc: Global, numbers: &mut Numbers) -> Result<Call, Fail>
+    ensures { IfOk result (λ call. IsOfFewKeys (call_of call)) }
+{
     let slot = numbers.below(SLOTS);
     let key = key(numbers.below(KEYS));
     match numbers.below(64) {
@@ -57,6 +61,11 @@ fn any_call(alloc: Global, numbers: &mut Numbers) -> Result<Call, Fail> {
         43 => Ok(Call::FlushEnd { slot: slot / 2 }),
         44 => Ok(Call::FlushAbort { slot: slot / 2 }),
         45 => Ok(Call::Unpin { id: 1 + slot / 4 }),
+        46 => Ok(Call::Raise { upto: slot / 2 }),
+        47 => Ok(Call::Reclaim {
+            after: Some(key).filter(|_| slot > 8),
+            most: 2,
+        }),
         _ => {
             let ancestors = [numbers.below(SLOTS), slot];
             Ok(Call::Load {
@@ -75,6 +84,7 @@ enum Told {
     Purged(u64),
     NotFound,
     Found(Slot, u64),
+    Raised(Slot),
     Present(u64),
     Other,
 }
@@ -88,21 +98,27 @@ fn told_by(reply: &Reply) -> Told {
             Refusal::Rooted { slot } => *slot,
             Refusal::ViewTooOld { cleaned, .. } => *cleaned,
             Refusal::TooManyPins { most } => *most,
+            Refusal::PastRoot { upto, .. } => *upto,
             _ => return Told::Other,
         }),
         Reply::Purged { keys } => Told::Purged(*keys),
         Reply::NotFound => Told::NotFound,
         Reply::Found { slot, account, .. } => Told::Found(*slot, account.head().lamports),
         Reply::FlushBegun { .. } => Told::Other,
+        Reply::Raised { cleaned } => Told::Raised(*cleaned),
+        Reply::Reclaimed { .. } | Reply::NothingLeft => Told::Other,
         Reply::Counted { stats } => Told::Present(stats.cached.wrapping_add(stats.named)),
     }
 }
 
-/// Stores and roots as plain lists, searched anew at each call.
+/// Stores and roots as plain lists, searched anew at each call. Nothing of them is cleaned away.
 #[derive(Drop)]
 struct Lists {
     stores: Vec<(Slot, Key, Arc<Account>)>,
     roots: Vec<Slot>,
+    cleaned: Slot,
+    // Whether reclaims came, after which these lists don't tell how many pairs are present.
+    reclaimed: bool,
 }
 
 impl Lists {
@@ -160,7 +176,20 @@ impl Lists {
         Told::Purged(keys)
     }
 
+    fn raise(&mut self, upto: Slot) -> Told {
+        match self.roots.last() {
+            Some(newest) if upto <= *newest => {
+                self.cleaned = self.cleaned.max(upto);
+                Told::Raised(self.cleaned)
+            }
+            _ => Told::Refused(upto),
+        }
+    }
+
     fn load(&self, view: &View, key: &Key) -> Told {
+        if view.max_root() < self.cleaned {
+            return Told::Refused(self.cleaned);
+        }
         match plain_answer(&self.stores, &self.roots, view, key) {
             Some((slot, account)) => Told::Found(slot, account.head().lamports),
             None => Told::NotFound,
@@ -173,7 +202,12 @@ impl Lists {
             Call::Root { slot } => self.root(*slot),
             Call::Purge { slot } => Ok(self.purge(*slot)),
             Call::Load { view, key } => Ok(self.load(view, key)),
-            Call::Stats => Ok(Told::Present(self.present())),
+            Call::Raise { upto } => Ok(self.raise(*upto)),
+            Call::Reclaim { .. } => {
+                self.reclaimed = true;
+                Ok(Told::Other)
+            }
+            Call::Stats if !self.reclaimed => Ok(Told::Present(self.present())),
             _ => Ok(Told::Other),
         }
     }
@@ -187,6 +221,8 @@ fn a_player_answers_as_plain_lists_do(rt: HostRuntime) -> Result<(), Fail> {
     let mut lists = Lists {
         stores: Vec::new(alloc),
         roots: Vec::new(alloc),
+        cleaned: 0,
+        reclaimed: false,
     };
     for number in 0..600_u64 {
         let call = any_call(alloc, &mut numbers)?;
@@ -199,7 +235,9 @@ fn a_player_answers_as_plain_lists_do(rt: HostRuntime) -> Result<(), Fail> {
     Ok(())
 }
 
-fn store_of(alloc: Global, slot: Slot, number: u64) -> Result<Call, Fail> {
+fn store_of(alloc: Global, slot: Slot, number: u64) -> Result<Call, Fail>
+    ensures { IfOk result (λ call. IsOfFewKeys (call_of call)) }
+{
     let account = any_account(alloc, &mut Numbers(number))?;
     Ok(Call::Store {
         slot,
@@ -225,12 +263,12 @@ fn a_player_runs_calls_of_several_lanes(rt: HostRuntime) -> Result<(), Fail> {
 }
 
 // The status and the journal of a script.
-fn journal(rt: &HostRuntime, text: &str) -> Result<(u8, Vec<u8>), Fail> {
+pub fn journal(rt: &HostRuntime, text: &str) -> Result<(u8, Vec<u8>), Fail> {
     let alloc = rt.alloc();
     let Ok(script) = parse(alloc, text.as_bytes()) else {
         return Err("no script")?;
     };
-    let mut sink = MemSink::new(alloc, 10_000, Vec::new(alloc))?;
+    let mut sink = MemSink::new(alloc, 100_000, Vec::new(alloc))?;
     let status = run_replay(rt, &script, &mut sink);
     Ok((status, sink.bytes().to_vec(alloc)?))
 }

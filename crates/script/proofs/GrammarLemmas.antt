@@ -1,13 +1,13 @@
 -- The reader of scripts against the grammar, both ways.
 use Rattle.std.proofs.Common.{◌≡◌, ℕ, ◌+◌, ◌≤◌, Bool, true, false, cond, leb, List, [], ◌∷◌, length, Option, Some, None, Result, Ok, Err, refl, sym, ap, ap₂, subst, ◌∙◌, inl, inr, arith}
-use Rattle.std.specs.Prelude.{codes, filter, map, not, replicate, ◌&&◌, option_and_then}
+use Rattle.std.specs.Prelude.{codes, filter, map, not, replicate, ◌&&◌, option_map, option_and_then}
 use Rattle.std.specs.Str.{bytes_eq}
 use Rattle.std.specs.Str.Lines.{lines}
-use Rattle.std.proofs.lemmas.Bool.{and_from, and_parts, cases_Bool, cond-true, le-leb, leb-true}
+use Rattle.std.proofs.lemmas.Bool.{and_from, and_parts, cases_Bool, cond-true, cond-false, le-leb, leb-true}
 use Rattle.std.proofs.lemmas.Slice.Eq.{bytes_eq-Decides}
 use Rattle.adb_model.specs.Account.{Account, account_of}
 use Rattle.adb_model.specs.View.{View}
-use Rattle.adb_model.specs.Call.{Store, Root, Purge, Load, Unpin, FlushBegin, FlushEnd, FlushAbort, Stats}
+use Rattle.adb_model.specs.Call.{Store, Root, Purge, Load, Unpin, Lease, EndLease, FlushBegin, FlushEnd, FlushAbort, Raise, Reclaim, Stats}
 use Rattle.hex.proofs.OnLiterals.{hex_on_literals}
 use Rattle.text_fields.specs.Keys.{key_of}
 use Rattle.text_fields.specs.Numbers.{number_of}
@@ -16,18 +16,18 @@ use Rattle.script.specs.declared.fault.Kind.TheVariants as kinds
 use Rattle.script.specs.declared.fault.WordFault.{WordFault}
 use Rattle.script.specs.declared.fault.LineFault.{LineFault}
 use Rattle.script.specs.declared.line.Leading.TheVariants as leadings
-use Rattle.script.specs.Arguments.{view_of, flag_of, data_of}
+use Rattle.script.specs.Arguments.{view_of, max_root_of, flag_of, data_of, after_of}
 use Rattle.script.specs.Data.{IsData}
-use Rattle.script.specs.Grammar.{filled, store_defaults, flush_defaults, IsStore, IsOfNumber, IsOfView, IsWorkers, IsFlush, IsOrder, IsLine, AreLines, AreSaid, IsScript}
-use Rattle.script.specs.Reader.{◌>>=◌, good, argument, optional, fitting, ended, if_lane, lane_of, data_argument, store_of, only_number, number_order, if_workers, workers_argument, flush_of, view_and_key_of, numbered_of, order_of, is_header, first_fault, lane_argument, line_of, said_by, and_then, lines_from, with_budget, unskipped, leading_of, headed, said_from, script_of}
+use Rattle.script.specs.Grammar.{filled, store_defaults, flush_defaults, IsStore, IsOfNumber, IsOfView, IsUpTo, IsFlush, IsOfMaxRoot, IsAfter, IsReclaim, IsOrder, IsLine, AreLines, AreSaid, IsScript}
+use Rattle.script.specs.Reader.{◌>>=◌, good, argument, optional, fitting, ended, if_lane, lane_of, data_argument, store_of, only_number, number_order, if_up_to, count_argument, flush_of, reclaim_of, only_max_root, view_and_key_of, numbered_of, order_of, is_header, first_fault, lane_argument, line_of, said_by, and_then, lines_from, with_budget, unskipped, leading_of, headed, said_from, script_of}
 use Rattle.script.specs.Laws.{ReadsTheGrammar}
-use Rattle.script.specs.Said.{Order, Plain, Get, Flush, Line, Said}
+use Rattle.script.specs.Said.{Order, Plain, Get, Flush, Clean, Line, Said}
 use Rattle.script.specs.Text.{flag_text}
 use Rattle.script.specs.Views.{IsView}
 use Rattle.script.specs.Words.{words, is_skipped}
 use Rattle.script.proofs.DataGrammar.{data_read, data_again}
 use Rattle.script.proofs.Separated.{chosen}
-use Rattle.script.proofs.ViewGrammar.{view_read, view_again}
+use Rattle.script.proofs.ViewGrammar.{max_root_read, max_root_again, view_read, view_again}
 
 -- ---- the reader's steps
 
@@ -146,6 +146,11 @@ no_owner : key_of (codes "00") ≡ Some (replicate 32 0)
 unfolding key_of hex_on_literals
 no_owner = refl
 
+-- what stands for no key is none
+no_key : key_of (codes "-") ≡ None
+unfolding key_of hex_on_literals
+no_key = refl
+
 -- the word of a header is no number
 no_number : number_of (codes "budget") ≡ None
 unfolding number_of
@@ -155,7 +160,7 @@ no_epoch : number_of (codes "0") ≡ Some 0
 unfolding number_of
 no_epoch = refl
 
-one_worker : IsWorkers (codes "1") 1
+one_worker : IsUpTo 16 (codes "1") 1
 unfolding number_of
 one_worker = record { number = refl; least = omega arith; most = omega arith }
 
@@ -189,31 +194,32 @@ number_ordered command order w ws o holds is e =
     let same : order b.0 ≡ o = cc b.2 in
     subst (λ (x : Order). IsOrder (w ∷ ws) x) same (holds b.0 (number_read command 3 w ws b.0 is b.1))
 
-workers_first : (w : List ℕ) (ws : List (List ℕ)) (x : ℕ × List (List ℕ)) → workers_argument 4 (w ∷ ws) ≡ Ok x → IsWorkers w x.0 × (ws ≡ x.1)
-unfolding workers_argument
-workers_first w ws x e =
-    let b = bind_ok (argument number_of kinds.Number 4 (w ∷ ws)) (if_workers 4) x e in
+-- a number up to a greatest
+count_first : (greatest : ℕ) (w : List ℕ) (ws : List (List ℕ)) (x : ℕ × List (List ℕ)) → count_argument greatest 4 (w ∷ ws) ≡ Ok x → IsUpTo greatest w x.0 × (ws ≡ x.1)
+unfolding count_argument
+count_first greatest w ws x e =
+    let b = bind_ok (argument number_of kinds.Number 4 (w ∷ ws)) (if_up_to greatest 4) x e in
     let a = argument_first number_of kinds.Number 4 w ws b.0 b.1 in
-    elim (chosen (leb 1 b.0.0 && leb b.0.0 16) (Ok b.0) _ (Ok x) b.2) [
+    elim (chosen (leb 1 b.0.0 && leb b.0.0 greatest) (Ok b.0) _ (Ok x) b.2) [
       | inl t ↦
           let same : b.0 ≡ x = cc t.1 in
-          let p = and_parts (leb 1 b.0.0) (leb b.0.0 16) t.0 in
-          let whole : IsWorkers w b.0.0 × (ws ≡ b.0.1) = (record { number = a.0; least = leb-true _ _ p.0; most = leb-true _ _ p.1 }, a.1) in
-          subst (λ (v : ℕ × List (List ℕ)). IsWorkers w v.0 × (ws ≡ v.1)) same whole
+          let p = and_parts (leb 1 b.0.0) (leb b.0.0 greatest) t.0 in
+          let whole : IsUpTo greatest w b.0.0 × (ws ≡ b.0.1) = (record { number = a.0; least = leb-true _ _ p.0; most = leb-true _ _ p.1 }, a.1) in
+          subst (λ (v : ℕ × List (List ℕ)). IsUpTo greatest w v.0 × (ws ≡ v.1)) same whole
       | inr t ↦ absurd (cc t.1)
     ]
 
-workers_word_again : (w : List ℕ) (n : ℕ) → IsWorkers w n → (rest : List (List ℕ)) → workers_argument 4 (w ∷ rest) ≡ Ok (n, rest)
-unfolding workers_argument
-workers_word_again w n h rest =
-    ap (λ (r : Result (ℕ × List (List ℕ)) WordFault). r >>= if_workers 4) (argument_again number_of kinds.Number 4 w n h.number rest)
-    ∙ cond-true (leb 1 n && leb n 16) (Ok (n, rest)) _ (and_from _ _ (le-leb 1 n h.least) (le-leb n 16 h.most))
+count_again : (greatest : ℕ) (w : List ℕ) (n : ℕ) → IsUpTo greatest w n → (rest : List (List ℕ)) → count_argument greatest 4 (w ∷ rest) ≡ Ok (n, rest)
+unfolding count_argument
+count_again greatest w n h rest =
+    ap (λ (r : Result (ℕ × List (List ℕ)) WordFault). r >>= if_up_to greatest 4) (argument_again number_of kinds.Number 4 w n h.number rest)
+    ∙ cond-true (leb 1 n && leb n greatest) (Ok (n, rest)) _ (and_from _ _ (le-leb 1 n h.least) (le-leb n greatest h.most))
 
 flush_read : (w : List ℕ) (ws : List (List ℕ)) (o : Order) → w ≡ codes "flush" → flush_of ws ≡ Ok o → IsOrder (w ∷ ws) o
 unfolding flush_of
 flush_read w ws o is e =
     let slot = step _ _ _ ws _ o e in
-    let workers = further (λ v x. IsWorkers v x) (codes "1") 1 (workers_argument 4) one_worker workers_first slot.2 _ o slot.5 in
+    let workers = further (λ v x. IsUpTo 16 v x) (codes "1") 1 (count_argument 16 4) one_worker (count_first 16) slot.2 _ o slot.5 in
     let done = at_end _ workers.2 _ o workers.5 in
     let made : Order = Flush slot.1 workers.1 in
     let same = value_same made o (Ok made) refl done.1 in
@@ -232,8 +238,77 @@ flush_read w ws o is e =
 flush_again : (ws : List (List ℕ)) (slot workers : ℕ) (h : IsFlush ws slot workers) → flush_of (h.slot_word ∷ h.further) ≡ Ok (Flush slot workers)
 unfolding flush_of argument ended
 flush_again ws slot workers h =
-    let more = further_again (codes "1") h.workers_word 1 workers (workers_argument 4) (workers_word_again (codes "1") 1 one_worker) (workers_word_again h.workers_word workers h.workers_are) h.further [] [] h.further_are in
+    let more = further_again (codes "1") h.workers_word 1 workers (count_argument 16 4) (count_again 16 (codes "1") 1 one_worker) (count_again 16 h.workers_word workers h.workers_are) h.further [] [] h.further_are in
     rw (h.slot_is, more.1, none_left more.0 more.2) refl
+
+-- a command and a greatest root
+max_root_ordered : (command : List ℕ) (order : ℕ → Order) (w : List ℕ) (ws : List (List ℕ)) (o : Order) → ((n : ℕ) → IsOfMaxRoot command (w ∷ ws) n → IsOrder (w ∷ ws) (order n))
+    → w ≡ command → (only_max_root ws >>= λ n. Ok (order n)) ≡ Ok o → IsOrder (w ∷ ws) o
+unfolding only_max_root
+max_root_ordered command order w ws o holds is e =
+    let b = bind_ok (only_max_root ws) (λ n. Ok (order n)) o e in
+    let most = step max_root_of kinds.Number 3 ws _ b.0 b.1 in
+    let done = at_end _ most.2 _ b.0 most.5 in
+    let same : most.1 ≡ b.0 = cc done.1 in
+    let ordered : order b.0 ≡ o = cc b.2 in
+    subst (λ (x : Order). IsOrder (w ∷ ws) x) ordered (holds b.0 (record {
+      max_root_word = most.0;
+      words = ap₂ (λ (v : List ℕ) (r : List (List ℕ)). v ∷ r) is (most.3 ∙ ap (λ (l : List (List ℕ)). most.0 ∷ l) done.0);
+      max_root_is = max_root_read most.0 b.0 (most.4 ∙ ap (λ (m : ℕ). Some m) same);
+    }))
+
+max_root_ordered_again : (command : List ℕ) (ws : List (List ℕ)) (n : ℕ) (h : IsOfMaxRoot command ws n) → only_max_root (h.max_root_word ∷ []) ≡ Ok n
+unfolding only_max_root argument ended
+max_root_ordered_again command ws n h = rw (max_root_again h.max_root_word n h.max_root_is) refl
+
+-- a key after which to go on, or none
+after_read : (w : List ℕ) (after : Option (List ℕ)) → after_of w ≡ Some after → IsAfter w after
+unfolding after_of
+after_read w after e = elim (chosen (bytes_eq w (codes "-")) (Some None) (option_map Some (key_of w)) (Some after) e) [
+  | inl dash ↦ let none : None ≡ after = cc dash.1 in subst (λ (a : Option (List ℕ)). IsAfter w a) none (is_text w (codes "-") dash.0)
+  | inr other ↦ by (key_of w) refl other.1
+] where
+  by : (o : Option (List ℕ)) → key_of w ≡ o → option_map Some o ≡ Some after → IsAfter w after
+  by None is f = absurd (cc f)
+  by (Some key) is f = let same : Some key ≡ after = cc f in subst (λ (a : Option (List ℕ)). IsAfter w a) same is
+
+after_again : (w : List ℕ) (after : Option (List ℕ)) → IsAfter w after → after_of w ≡ Some after
+unfolding after_of
+after_again w None h = ap after_of h
+after_again w (Some key) h =
+    let other : bytes_eq w (codes "-") ≡ false = elim (cases_Bool (bytes_eq w (codes "-"))) [
+      | inl dash ↦ absurd (cc (h, ap key_of (is_text w (codes "-") dash), no_key))
+      | inr key ↦ key
+    ] in
+    cond-false (bytes_eq w (codes "-")) _ _ other ∙ ap (option_map Some) h
+
+count_read : (greatest : ℕ) (ws : List (List ℕ)) (x : ℕ × List (List ℕ)) → count_argument greatest 4 ws ≡ Ok x → (w : List ℕ) × (ws ≡ w ∷ x.1) × IsUpTo greatest w x.0
+unfolding count_argument argument
+count_read greatest [] x e = absurd cc
+count_read greatest (w ∷ ws) x e = let c = count_first greatest w ws x e in (w, ap (λ (l : List (List ℕ)). w ∷ l) c.1, c.0)
+
+reclaim_read : (w : List ℕ) (ws : List (List ℕ)) (o : Order) → w ≡ codes "reclaim" → reclaim_of ws ≡ Ok o → IsOrder (w ∷ ws) o
+unfolding reclaim_of
+reclaim_read w ws o is e =
+    let after = step _ _ _ ws _ o e in
+    let b = bind_ok (count_argument 256 4 after.2) _ o after.5 in
+    let most = count_read 256 after.2 b.0 b.1 in
+    let done = at_end _ b.0.1 _ o b.2 in
+    let made : Order = Plain (Reclaim after.1 b.0.0) in
+    let same = value_same made o (Ok made) refl done.1 in
+    let words : w ∷ ws ≡ codes "reclaim" ∷ after.0 ∷ most.0 ∷ [] =
+    ap₂ (λ (v : List ℕ) (r : List (List ℕ)). v ∷ r) is (after.3 ∙ ap (λ (l : List (List ℕ)). after.0 ∷ l) (most.1 ∙ ap (λ (l : List (List ℕ)). most.0 ∷ l) done.0)) in
+    subst (λ (x : Order). IsOrder (w ∷ ws) x) same (record {
+      after_word = after.0;
+      most_word = most.0;
+      words = words;
+      after_is = after_read after.0 after.1 after.4;
+      most_is = most.2;
+    })
+
+reclaim_again : (ws : List (List ℕ)) (after : Option (List ℕ)) (most : ℕ) (h : IsReclaim ws after most) → reclaim_of (h.after_word ∷ h.most_word ∷ []) ≡ Ok (Plain (Reclaim after most))
+unfolding reclaim_of argument ended
+reclaim_again ws after most h = rw (after_again h.after_word after h.after_is, count_again 256 h.most_word most h.most_is []) refl
 
 view_and_key_read : (ws : List (List ℕ)) (x : View × List ℕ) → view_and_key_of ws ≡ Ok x → (v k : List ℕ) × (ws ≡ v ∷ k ∷ []) × IsView v x.0 × (key_of k ≡ Some x.1)
 unfolding view_and_key_of
@@ -341,7 +416,9 @@ numbered_read w ws o e0 =
     pick w (codes "flush-begin") _ _ _ e3 (number_ordered (codes "flush-begin") (λ n. Plain (FlushBegin n)) w ws o (λ n h. h)) (λ e4.
     pick w (codes "flush-end") _ _ _ e4 (number_ordered (codes "flush-end") (λ n. Plain (FlushEnd n)) w ws o (λ n h. h)) (λ e5.
     pick w (codes "flush-abort") _ _ _ e5 (number_ordered (codes "flush-abort") (λ n. Plain (FlushAbort n)) w ws o (λ n h. h)) (λ e6.
-    absurd (cc e6)))))))
+    pick w (codes "raise") _ _ _ e6 (number_ordered (codes "raise") (λ n. Plain (Raise n)) w ws o (λ n h. h)) (λ e7.
+    pick w (codes "clean") _ _ _ e7 (number_ordered (codes "clean") (λ n. Clean n) w ws o (λ n h. h)) (λ e8.
+    absurd (cc e8)))))))))
 
 order_read : (ws : List (List ℕ)) (o : Order) → order_of ws ≡ Ok o → IsOrder ws o
 unfolding order_of
@@ -350,9 +427,12 @@ order_read (w ∷ ws) o e0 =
     pick w (codes "store") _ _ _ e0 (store_read w ws o) (λ e1.
     pick w (codes "get") _ _ _ e1 (view_order (codes "get") Get w ws o (λ v k h. h)) (λ e2.
     pick w (codes "load") _ _ _ e2 (view_order (codes "load") (λ v k. Plain (Load v k)) w ws o (λ v k h. h)) (λ e3.
-    pick w (codes "flush") _ _ _ e3 (flush_read w ws o) (λ e4.
-    pick w (codes "stats") _ _ _ e4 (stats_read w ws o) (λ e5.
-    numbered_read w ws o e5)))))
+    pick w (codes "lease") _ _ _ e3 (max_root_ordered (codes "lease") (λ n. Plain (Lease n)) w ws o (λ n h. h)) (λ e4.
+    pick w (codes "end-lease") _ _ _ e4 (max_root_ordered (codes "end-lease") (λ n. Plain (EndLease n)) w ws o (λ n h. h)) (λ e5.
+    pick w (codes "flush") _ _ _ e5 (flush_read w ws o) (λ e6.
+    pick w (codes "reclaim") _ _ _ e6 (reclaim_read w ws o) (λ e7.
+    pick w (codes "stats") _ _ _ e7 (stats_read w ws o) (λ e8.
+    numbered_read w ws o e8))))))))
 
 order_again : (ws : List (List ℕ)) (o : Order) → IsOrder ws o → order_of ws ≡ Ok o
 unfolding order_of numbered_of
@@ -360,13 +440,18 @@ order_again ws (Plain (Store slot key account)) h = ap order_of h.words ∙ stor
 order_again ws (Plain (Root slot)) h = ap order_of h.words ∙ rw (number_again 3 h.number_word slot h.number_is) refl
 order_again ws (Plain (Purge slot)) h = ap order_of h.words ∙ rw (number_again 3 h.number_word slot h.number_is) refl
 order_again ws (Plain (Unpin id)) h = ap order_of h.words ∙ rw (number_again 3 h.number_word id h.number_is) refl
+order_again ws (Plain (Lease n)) h = ap order_of h.words ∙ rw (max_root_ordered_again (codes "lease") ws n h) refl
+order_again ws (Plain (EndLease n)) h = ap order_of h.words ∙ rw (max_root_ordered_again (codes "end-lease") ws n h) refl
 order_again ws (Plain (FlushBegin slot)) h = ap order_of h.words ∙ rw (number_again 3 h.number_word slot h.number_is) refl
 order_again ws (Plain (FlushEnd slot)) h = ap order_of h.words ∙ rw (number_again 3 h.number_word slot h.number_is) refl
 order_again ws (Plain (FlushAbort slot)) h = ap order_of h.words ∙ rw (number_again 3 h.number_word slot h.number_is) refl
+order_again ws (Plain (Raise upto)) h = ap order_of h.words ∙ rw (number_again 3 h.number_word upto h.number_is) refl
+order_again ws (Plain (Reclaim after most)) h = ap order_of h.words ∙ reclaim_again ws after most h
 order_again ws (Plain (Load view key)) h = ap order_of h.words ∙ rw (view_order_again (codes "load") ws view key h) refl
 order_again ws (Plain Stats) h = ap order_of h ∙ stats_again
 order_again ws (Get view key) h = ap order_of h.words ∙ rw (view_order_again (codes "get") ws view key h) refl
 order_again ws (Flush slot workers) h = ap order_of h.words ∙ flush_again ws slot workers h
+order_again ws (Clean upto) h = ap order_of h.words ∙ rw (number_again 3 h.number_word upto h.number_is) refl
 order_again ws o h = absurd h
 
 -- ---- lines

@@ -111,14 +111,14 @@ ancestors_again w slots (inr h) =
 
 -- ---- the greatest root
 
-max_root_read : (w : List ℕ) (most : ℕ) → max_root_of w ≡ Some most → IsMaxRoot w most
+pub max_root_read : (w : List ℕ) (most : ℕ) → max_root_of w ≡ Some most → IsMaxRoot w most
 unfolding max_root_of
 max_root_read w most e = elim (chosen (bytes_eq w (codes "all")) (Some (2 ^ 64 - 1)) (number_of w) (Some most) e) [
   | inl all ↦ let is : 2 ^ 64 - 1 ≡ most = cc all.1 in inl ((bytes_eq-Decides w (codes "all")).0 all.0, sym is)
   | inr number ↦ inr number.1
 ]
 
-max_root_again : (w : List ℕ) (most : ℕ) → IsMaxRoot w most → max_root_of w ≡ Some most
+pub max_root_again : (w : List ℕ) (most : ℕ) → IsMaxRoot w most → max_root_of w ≡ Some most
 unfolding max_root_of
 max_root_again w most (inl all) = ap max_root_of all.0 ∙ ap (λ (n : ℕ). Some n) (sym all.1)
 max_root_again w most (inr number) =

@@ -8,6 +8,7 @@ use Rattle.hex.specs.Hex.{decode_of}
 use Rattle.hex.specs.declared.error.FromHexError.{FromHexError}
 use Rattle.adb_model.specs.View as machine
 use Rattle.adb_model.specs.View.{View}
+use Rattle.text_fields.specs.Keys.{key_of}
 use Rattle.text_fields.specs.Numbers.{number_of}
 
 -- all of them, where each word is a number
@@ -25,6 +26,10 @@ ancestors_of w =
 -- a number, or `all`
 unfoldable pub max_root_of : List ℕ → Option ℕ
 max_root_of w = if bytes_eq w (codes "all") then Some (2 ^ 64 - 1) else number_of w
+
+-- `-`, or a key
+unfoldable pub after_of : List ℕ → Option (Option (List ℕ))
+after_of w = if bytes_eq w (codes "-") then Some None else option_map Some (key_of w)
 
 -- ancestors, `@` and the greatest root
 unfoldable pub view_of : List ℕ → Option View

@@ -2,14 +2,14 @@
 use Rattle.std.specs.Prelude.{◌≡◌, ◌≤◌, ℕ, Bool, not, List, [], ◌∷◌, ◌++◌, length, drop, codes, filter, map, Option, Some, None}
 use Rattle.std.specs.Str.Lines.{lines}
 use Rattle.adb_model.specs.Account.{Account, account_of}
-use Rattle.adb_model.specs.Call.{Store, Root, Purge, Load, Unpin, FlushBegin, FlushEnd, FlushAbort, Stats}
+use Rattle.adb_model.specs.Call.{Store, Root, Purge, Load, Unpin, Lease, EndLease, FlushBegin, FlushEnd, FlushAbort, Raise, Reclaim, Stats}
 use Rattle.adb_model.specs.View.{View}
 use Rattle.text_fields.specs.Keys.{key_of}
 use Rattle.text_fields.specs.Numbers.{number_of}
 use Rattle.script.specs.Data.{IsData}
-use Rattle.script.specs.Said.{Order, Plain, Get, Flush, Line, Said}
+use Rattle.script.specs.Said.{Order, Plain, Get, Flush, Clean, Line, Said}
 use Rattle.script.specs.Text.{flag_text}
-use Rattle.script.specs.Views.{IsView}
+use Rattle.script.specs.Views.{IsMaxRoot, IsView}
 use Rattle.script.specs.Words.{words, is_skipped}
 
 -- some words, and the last of these defaults for those that are left out
@@ -66,11 +66,11 @@ pub record IsOfView (command : List ℕ) (ws : List (List ℕ)) (view : View) (k
 abbrev pub flush_defaults : List (List ℕ)
 flush_defaults = codes "1" ∷ []
 
--- a number of workers, from 1 to 16
-pub record IsWorkers (w : List ℕ) (workers : ℕ) : Type 0 where
-  pub number : number_of w ≡ Some workers
-  pub least : 1 ≤ workers
-  pub most : workers ≤ 16
+-- a number from 1 to this one
+pub record IsUpTo (greatest : ℕ) (w : List ℕ) (count : ℕ) : Type 0 where
+  pub number : number_of w ≡ Some count
+  pub least : 1 ≤ count
+  pub most : count ≤ greatest
 
 -- `flush SLOT [WORKERS]`
 pub record IsFlush (ws : List (List ℕ)) (slot workers : ℕ) : Type 0 where
@@ -80,7 +80,26 @@ pub record IsFlush (ws : List (List ℕ)) (slot workers : ℕ) : Type 0 where
   pub words : ws ≡ codes "flush" ∷ slot_word ∷ further
   pub slot_is : number_of slot_word ≡ Some slot
   pub further_are : filled flush_defaults further ≡ workers_word ∷ []
-  pub workers_are : IsWorkers workers_word workers
+  pub workers_are : IsUpTo 16 workers_word workers
+
+-- a command and a greatest root
+pub record IsOfMaxRoot (command : List ℕ) (ws : List (List ℕ)) (max_root : ℕ) : Type 0 where
+  pub max_root_word : List ℕ
+  pub words : ws ≡ command ∷ max_root_word ∷ []
+  pub max_root_is : IsMaxRoot max_root_word max_root
+
+-- `-`, or a key
+abbrev pub IsAfter : List ℕ → Option (List ℕ) → Type 0
+IsAfter w None = w ≡ codes "-"
+IsAfter w (Some key) = key_of w ≡ Some key
+
+-- `reclaim AFTER MOST`, of at most 256 keys
+pub record IsReclaim (ws : List (List ℕ)) (after : Option (List ℕ)) (most : ℕ) : Type 0 where
+  pub after_word : List ℕ
+  pub most_word : List ℕ
+  pub words : ws ≡ codes "reclaim" ∷ after_word ∷ most_word ∷ []
+  pub after_is : IsAfter after_word after
+  pub most_is : IsUpTo 256 most_word most
 
 -- the words after the lane; nothing else is asked for yet
 abbrev pub IsOrder : List (List ℕ) → Order → Type 0
@@ -89,12 +108,17 @@ IsOrder ws (Plain (Root slot)) = IsOfNumber (codes "root") ws slot
 IsOrder ws (Plain (Purge slot)) = IsOfNumber (codes "purge") ws slot
 IsOrder ws (Plain (Load view key)) = IsOfView (codes "load") ws view key
 IsOrder ws (Plain (Unpin id)) = IsOfNumber (codes "unpin") ws id
+IsOrder ws (Plain (Lease max_root)) = IsOfMaxRoot (codes "lease") ws max_root
+IsOrder ws (Plain (EndLease max_root)) = IsOfMaxRoot (codes "end-lease") ws max_root
 IsOrder ws (Plain (FlushBegin slot)) = IsOfNumber (codes "flush-begin") ws slot
 IsOrder ws (Plain (FlushEnd slot)) = IsOfNumber (codes "flush-end") ws slot
 IsOrder ws (Plain (FlushAbort slot)) = IsOfNumber (codes "flush-abort") ws slot
+IsOrder ws (Plain (Raise upto)) = IsOfNumber (codes "raise") ws upto
+IsOrder ws (Plain (Reclaim after most)) = IsReclaim ws after most
 IsOrder ws (Plain Stats) = ws ≡ codes "stats" ∷ []
 IsOrder ws (Get view key) = IsOfView (codes "get") ws view key
 IsOrder ws (Flush slot workers) = IsFlush ws slot workers
+IsOrder ws (Clean upto) = IsOfNumber (codes "clean") ws upto
 IsOrder ws order = ⊥
 
 -- the words of a line: a lane from 1 to 64, and what it is to do

@@ -3,7 +3,7 @@ use Rattle.std.specs.Prelude.{ℕ, ◌+◌, nat_le, ◌&&◌, Bool, false, if◌
 use Rattle.std.specs.Str.{bytes_eq}
 use Rattle.std.specs.Str.Lines.{lines}
 use Rattle.adb_model.specs.Account.{account_of}
-use Rattle.adb_model.specs.Call.{Store, Root, Purge, Load, Unpin, FlushBegin, FlushEnd, FlushAbort, Stats}
+use Rattle.adb_model.specs.Call.{Store, Root, Purge, Load, Unpin, Lease, EndLease, FlushBegin, FlushEnd, FlushAbort, Raise, Reclaim, Stats}
 use Rattle.adb_model.specs.View.{View}
 use Rattle.text_fields.specs.Keys.{key_of}
 use Rattle.text_fields.specs.Numbers.{number_of}
@@ -13,8 +13,8 @@ use Rattle.script.specs.declared.fault.WordFault.{WordFault}
 use Rattle.script.specs.declared.fault.LineFault.{LineFault}
 use Rattle.script.specs.declared.line.Leading.{Leading}
 use Rattle.script.specs.declared.line.Leading.TheVariants as leadings
-use Rattle.script.specs.Arguments.{view_of, flag_of, data_of}
-use Rattle.script.specs.Said.{Order, Plain, Get, Flush, Line, Said}
+use Rattle.script.specs.Arguments.{view_of, flag_of, data_of, max_root_of, after_of}
+use Rattle.script.specs.Said.{Order, Plain, Get, Flush, Clean, Line, Said}
 use Rattle.script.specs.Words.{words, is_skipped}
 
 -- the second step, where the first gave a value
@@ -84,18 +84,18 @@ only_number word ws = do
 abbrev pub number_order : (ℕ → Order) → List (List ℕ) → Result Order WordFault
 number_order order ws = only_number 3 ws >>= λ n. Ok (order n)
 
--- 1 to 16 workers
-abbrev pub if_workers : {B : Type 0} → ℕ → ℕ × B → Result (ℕ × B) WordFault
-if_workers word x = if nat_le 1 x.0 && nat_le x.0 16 then Ok x else fault word kinds.Range
+-- from 1 to this number
+abbrev pub if_up_to : {B : Type 0} → ℕ → ℕ → ℕ × B → Result (ℕ × B) WordFault
+if_up_to greatest word x = if nat_le 1 x.0 && nat_le x.0 greatest then Ok x else fault word kinds.Range
 
--- the workers of a flush
-unfoldable pub workers_argument : ℕ → List (List ℕ) → Result (ℕ × List (List ℕ)) WordFault
-workers_argument word ws = argument number_of kinds.Number word ws >>= if_workers word
+-- a number from 1 to this one
+unfoldable pub count_argument : ℕ → ℕ → List (List ℕ) → Result (ℕ × List (List ℕ)) WordFault
+count_argument greatest word ws = argument number_of kinds.Number word ws >>= if_up_to greatest word
 
 unfoldable pub flush_of : List (List ℕ) → Result Order WordFault
 flush_of ws = do
   slot ← argument number_of kinds.Number 3 ws
-  workers ← optional 1 (workers_argument 4) slot.1
+  workers ← optional 1 (count_argument 16 4) slot.1
   done ← ended 5 workers.1
   Ok (Flush slot.0 workers.0)
 
@@ -107,6 +107,20 @@ view_and_key_of ws = do
   done ← ended 5 key.1
   Ok (view.0, key.0)
 
+unfoldable pub reclaim_of : List (List ℕ) → Result Order WordFault
+reclaim_of ws = do
+  after ← argument after_of kinds.Key 3 ws
+  most ← count_argument 256 4 after.1
+  done ← ended 5 most.1
+  Ok (Plain (Reclaim after.0 most.0))
+
+-- the greatest root of an order that has no more than that
+unfoldable pub only_max_root : List (List ℕ) → Result ℕ WordFault
+only_max_root ws = do
+  max_root ← argument max_root_of kinds.Number 3 ws
+  done ← ended 4 max_root.1
+  Ok max_root.0
+
 -- the commands that have a number and no more
 unfoldable pub numbered_of : List ℕ → List (List ℕ) → Result Order WordFault
 numbered_of w ws =
@@ -116,6 +130,8 @@ numbered_of w ws =
     else if bytes_eq w (codes "flush-begin") then number_order (λ slot. Plain (FlushBegin slot)) ws
     else if bytes_eq w (codes "flush-end") then number_order (λ slot. Plain (FlushEnd slot)) ws
     else if bytes_eq w (codes "flush-abort") then number_order (λ slot. Plain (FlushAbort slot)) ws
+    else if bytes_eq w (codes "raise") then number_order (λ upto. Plain (Raise upto)) ws
+    else if bytes_eq w (codes "clean") then number_order (λ upto. Clean upto) ws
     else fault 2 kinds.Unknown
 
 unfoldable pub order_of : List (List ℕ) → Result Order WordFault
@@ -124,7 +140,10 @@ order_of (w ∷ ws) =
     if bytes_eq w (codes "store") then store_of ws
     else if bytes_eq w (codes "get") then (view_and_key_of ws >>= λ x. Ok (Get x.0 x.1))
     else if bytes_eq w (codes "load") then (view_and_key_of ws >>= λ x. Ok (Plain (Load x.0 x.1)))
+    else if bytes_eq w (codes "lease") then (only_max_root ws >>= λ n. Ok (Plain (Lease n)))
+    else if bytes_eq w (codes "end-lease") then (only_max_root ws >>= λ n. Ok (Plain (EndLease n)))
     else if bytes_eq w (codes "flush") then flush_of ws
+    else if bytes_eq w (codes "reclaim") then reclaim_of ws
     else if bytes_eq w (codes "stats") then (ended 3 ws >>= λ done. Ok (Plain Stats))
     else numbered_of w ws
 

@@ -11,6 +11,7 @@ pub data Order : Type 0 where
   Plain : (call : Call) → Order
   Get : (view : View) (key : List ℕ) → Order
   Flush : (slot workers : ℕ) → Order
+  Clean : (upto : ℕ) → Order
 
 -- an order of a lane
 pub record Line : Type 0 where
@@ -27,6 +28,7 @@ abbrev pub order_played : Order → machine.Order
 order_played (Plain call) = machine.Plain call
 order_played (Get view key) = machine.Get view key
 order_played (Flush slot workers) = machine.Flush slot
+order_played (Clean upto) = machine.Clean upto
 
 abbrev pub line_played : Line → machine.Line
 line_played l = record { lane = l.lane; order = order_played l.order }

@@ -1,15 +1,15 @@
-ghost use Rattle.std.specs.Prelude.{◌≡◌, ◌≤◌, false, List, ℕ, [], length, replicate, IfOk};
+ghost use Rattle.std.specs.Prelude.{◌≡◌, ◌≤◌, false, List, ℕ, [], length, replicate, option_map, IfOk};
 ghost use Rattle.script.specs.declared.fault.Kind.TheVariants as kinds;
 ghost use Rattle.text_fields.specs.Keys.{key_of};
 ghost use Rattle.text_fields.specs.Numbers.{number_of};
-ghost use Rattle.script.specs.Arguments.{view_of, flag_of};
+ghost use Rattle.script.specs.Arguments.{view_of, max_root_of, flag_of, after_of};
 ghost use Rattle.script.specs.Reader as reader;
 ghost use Rattle.script.specs.Seen.{Gives};
 ghost use Rattle.script.specs.Words.{words};
 
 use crate::data_words::{DataError, read_data};
 use crate::fault::{Kind, ReadError, fault};
-use crate::view_words::LastView;
+use crate::view_words::{LastView, read_max_root};
 use crate::words::split_word;
 use adb_model::{Key, View};
 use std::alloc::Global;
@@ -63,6 +63,60 @@ pub fn view_at<'a>(
         Some(view) => Ok((view, rest)),
         None => Err(fault(word, Kind::View)),
     }
+}
+
+/// The same of a greatest root.
+#[tactic(auto, unfolding(crate::specs::Reader::argument))]
+pub fn max_root_at(word: u32, line: &[u8]) -> Result<(u64, &[u8]), ReadError>
+    ensures { Gives (λ x. (x.0, words x.1.now)) result (reader.argument max_root_of kinds.Number word (words line.now)) }
+{
+    let Some((text, rest)) = split_word(line) else {
+        return Err(fault(word, Kind::Missing));
+    };
+    match read_max_root(text) {
+        Some(max_root) => Ok((max_root, rest)),
+        None => Err(fault(word, Kind::Number)),
+    }
+}
+
+// The key that a word is after which to go on; none where it is `-`.
+#[tactic(auto, unfolding(crate::specs::Arguments::after_of))]
+fn read_after(word: &[u8]) -> Option<Option<Key>>
+    ensures { option_map (λ after. option_map (λ k. k.0) after) result ≡ after_of word.now }
+{
+    if word == b"-".as_slice() {
+        return Some(None);
+    }
+    match read_key(word) {
+        Some(key) => Some(Some(Key(key))),
+        None => None,
+    }
+}
+
+/// The same of a key after which to go on, or none.
+#[tactic(auto, unfolding(crate::specs::Reader::argument))]
+pub fn after_at(word: u32, line: &[u8]) -> Result<(Option<Key>, &[u8]), ReadError>
+    ensures { Gives (λ x. (option_map (λ k. k.0) x.0, words x.1.now)) result (reader.argument after_of kinds.Key word (words line.now)) }
+{
+    let Some((text, rest)) = split_word(line) else {
+        return Err(fault(word, Kind::Missing));
+    };
+    match read_after(text) {
+        Some(after) => Ok((after, rest)),
+        None => Err(fault(word, Kind::Key)),
+    }
+}
+
+/// The same of a number from 1 to the greatest that it may be.
+#[tactic(auto, unfolding(crate::specs::Reader::argument, crate::specs::Reader::count_argument))]
+pub fn count_at(greatest: u64, word: u32, line: &[u8]) -> Result<(usize, &[u8]), ReadError>
+    ensures { Gives (λ x. (x.0, words x.1.now)) result (reader.count_argument greatest word (words line.now)) }
+{
+    let (count, rest) = number_at(word, line)?;
+    if count < 1 || count > greatest {
+        return Err(fault(word, Kind::Range));
+    }
+    Ok((count as usize, rest))
 }
 
 /// The owner that the line's next word is, which is its sixth; zeros where it has no more words.
@@ -121,17 +175,12 @@ pub fn epoch_at(line: &[u8]) -> Result<(u64, &[u8]), ReadError>
 }
 
 /// The workers of a flush, by the fourth word; one where there is none.
-#[tactic(auto, unfolding(crate::specs::Reader::argument, crate::specs::Reader::workers_argument))]
 pub fn workers_at(line: &[u8]) -> Result<(usize, &[u8]), ReadError>
-    ensures { Gives (λ x. (x.0, words x.1.now)) result (reader.optional 1 (reader.workers_argument 4) (words line.now)) }
+    ensures { Gives (λ x. (x.0, words x.1.now)) result (reader.optional 1 (reader.count_argument 16 4) (words line.now)) }
 {
-    let Some((text, rest)) = split_word(line) else {
-        return Ok((1, line));
-    };
-    match read_number(text) {
-        Some(workers @ 1..=MOST_WORKERS) => Ok((workers as usize, rest)),
-        Some(_) => Err(fault(4, Kind::Range)),
-        None => Err(fault(4, Kind::Number)),
+    match split_word(line) {
+        None => Ok((1, line)),
+        Some(_) => count_at(MOST_WORKERS, 4, line),
     }
 }
 

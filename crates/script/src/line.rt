@@ -15,6 +15,8 @@ pub enum Order {
     Get { view: View, key: Key },
     /// A flush, begun and, where it began, ended. So many workers, 1 to 16, fill its storage.
     Flush { slot: Slot, workers: usize },
+    /// What is cleaned is raised up to a slot and, where that was done, all crowded keys are looked at.
+    Clean { upto: Slot },
 }
 
 /// A line of a script: the lane that plays it, and what it asks for.

@@ -5,7 +5,8 @@ ghost use Rattle.script.specs.Seen.{Gives, order_seen, line_seen};
 ghost use Rattle.script.specs.Words.{words};
 
 use crate::arguments::{
-    data_at, end, epoch_at, executable_at, key_at, number_at, owner_at, view_at, workers_at,
+    after_at, count_at, data_at, end, epoch_at, executable_at, key_at, max_root_at, number_at,
+    owner_at, view_at, workers_at,
 };
 use crate::fault::{Kind, ReadError, fault};
 use crate::line::{Leading, Line, Order};
@@ -18,6 +19,9 @@ use text_fields::read_number;
 
 /// The greatest lane.
 const MOST_LANES: u64 = 64;
+
+/// The most keys of a reclaim.
+const MOST_KEYS: u64 = 256;
 
 fn account(
     alloc: Global,
@@ -73,6 +77,26 @@ fn flush(line: &[u8]) -> Result<Order, ReadError>
     Ok(Order::Flush { slot, workers })
 }
 
+#[tactic(auto, unfolding(crate::specs::Reader::reclaim_of))]
+fn reclaim(line: &[u8]) -> Result<Order, ReadError>
+    ensures { Gives order_seen result (reader.reclaim_of (words line.now)) }
+{
+    let (after, rest) = after_at(3, line)?;
+    let (most, rest) = count_at(MOST_KEYS, 4, rest)?;
+    end(5, rest)?;
+    Ok(Order::Event(Call::Reclaim { after, most }))
+}
+
+// The greatest root of an order that has no more than that.
+#[tactic(auto, unfolding(crate::specs::Reader::only_max_root))]
+fn only_max_root(line: &[u8]) -> Result<u64, ReadError>
+    ensures { Gives (λ n. n) result (reader.only_max_root (words line.now)) }
+{
+    let (max_root, rest) = max_root_at(3, line)?;
+    end(4, rest)?;
+    Ok(max_root)
+}
+
 // The view and the key of an order that has no more than that.
 #[tactic(auto, unfolding(crate::specs::Reader::view_and_key_of))]
 fn view_and_key<'a>(
@@ -111,6 +135,12 @@ fn numbered(command: &[u8], line: &[u8]) -> Result<Order, ReadError>
     } else if command == b"flush-abort".as_slice() {
         let slot = only_number(3, line)?;
         Ok(Order::Event(Call::FlushAbort { slot }))
+    } else if command == b"raise".as_slice() {
+        let upto = only_number(3, line)?;
+        Ok(Order::Event(Call::Raise { upto }))
+    } else if command == b"clean".as_slice() {
+        let upto = only_number(3, line)?;
+        Ok(Order::Clean { upto })
     } else {
         Err(fault(2, Kind::Unknown))
     }
@@ -131,8 +161,16 @@ fn order<'a>(alloc: Global, last: &mut LastView<'a>, line: &'a [u8]) -> Result<O
     } else if command == b"load".as_slice() {
         let (view, key) = view_and_key(alloc, last, rest)?;
         Ok(Order::Event(Call::Load { view, key }))
+    } else if command == b"lease".as_slice() {
+        let max_root = only_max_root(rest)?;
+        Ok(Order::Event(Call::Lease { max_root }))
+    } else if command == b"end-lease".as_slice() {
+        let max_root = only_max_root(rest)?;
+        Ok(Order::Event(Call::EndLease { max_root }))
     } else if command == b"flush".as_slice() {
         flush(rest)
+    } else if command == b"reclaim".as_slice() {
+        reclaim(rest)
     } else if command == b"stats".as_slice() {
         end(3, rest)?;
         Ok(Order::Event(Call::Stats))

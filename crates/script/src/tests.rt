@@ -11,9 +11,16 @@ fn reply_to(call: &Call) -> Reply {
     match call {
         Call::Store { .. } | Call::Root { .. } => Reply::Done,
         Call::Unpin { .. } | Call::FlushEnd { .. } | Call::FlushAbort { .. } => Reply::Done,
+        Call::Lease { .. } | Call::EndLease { .. } => Reply::Done,
         Call::FlushBegin { .. } => Reply::FlushBegun { id: 3, bytes: 136 },
         Call::Purge { .. } => Reply::Purged { keys: 3 },
         Call::Load { .. } => Reply::NotFound,
+        Call::Raise { upto } => Reply::Raised { cleaned: *upto },
+        Call::Reclaim { after: None, .. } => Reply::NothingLeft,
+        Call::Reclaim {
+            after: Some(key),
+            ..
+        } => Reply::Reclaimed { key: *key },
         Call::Stats => Reply::Counted {
             stats: Stats {
                 cached: 1,
@@ -29,8 +36,8 @@ fn reply_to(call: &Call) -> Reply {
     }
 }
 
-// A script's header and lines as the journal has them, with these replies, and a flush as it was read; none where
-// the bytes are no script.
+// A script's header and lines as the journal has them, with these replies, and a flush or a clean as it was read;
+// none where the bytes are no script.
 fn journal(alloc: Global, bytes: &[u8]) -> Result<Option<String>, Fail> {
     let script = match parse(alloc, bytes) {
         Ok(script) => script,
@@ -53,6 +60,10 @@ fn journal(alloc: Global, bytes: &[u8]) -> Result<Option<String>, Fail> {
             Order::Flush { slot, workers } => {
                 let lane = line.lane;
                 format!(in alloc; "{lane} flush {slot} {workers}\n")?.into_bytes()
+            }
+            Order::Clean { upto } => {
+                let lane = line.lane;
+                format!(in alloc; "{lane} clean {upto}\n")?.into_bytes()
             }
         };
         all.push_str(String::from_utf8(text)?.as_str())?;
@@ -117,6 +128,22 @@ fn scripts_say_these_lines(rt: HostRuntime) -> Result<(), Fail> {
             "1 flush 5 1\n1 flush 5 1\n64 flush 6 16\n",
         ),
         (
+            "1 lease 07\n2 lease all\n3 lease 18446744073709551615 = ok",
+            "1 lease 7 = ok\n2 lease all = ok\n3 lease all = ok\n",
+        ),
+        (
+            "1 end-lease 18446744073709551614\n2 end-lease all\n",
+            "1 end-lease 18446744073709551614 = ok\n2 end-lease all = ok\n",
+        ),
+        (
+            "1 raise 18446744073709551615\n1 clean 06",
+            "1 raise 18446744073709551615 = ok 18446744073709551615\n1 clean 6\n",
+        ),
+        (
+            "1 reclaim - 256\n1 reclaim 0aB000 001 = done",
+            "1 reclaim - 256 = done\n1 reclaim 0ab0 1 = ok 0ab0\n",
+        ),
+        (
             "064 stats",
             "64 stats = cached 1 filling 2 live 3 retired 4 named 5 rows 6 bytes 7 pins 18446744073709551615\n",
         ),
@@ -136,6 +163,13 @@ fn scripts_say_these_lines(rt: HostRuntime) -> Result<(), Fail> {
         assert_eq!(rt; said.as_str(), lines);
     }
     Ok(())
+}
+
+// The bytes are no script, and this is their first bad word.
+fn has_fault(alloc: Global, script: &str, line: u64, word: u32, kind: Kind) -> Result<bool, Fail> {
+    let fault = read_script(alloc, script.as_bytes()).err();
+    let due = LineError::Fault(LineFault { line, word, kind });
+    Ok(fault == Some(due) && journal(alloc, script.as_bytes())?.is_none())
 }
 
 #[test]
@@ -166,23 +200,6 @@ fn other_bytes_are_no_script(rt: HostRuntime) -> Result<(), Fail> {
         ("1 unpin", 1, 3, Kind::Missing),
         ("1 unpin x", 1, 3, Kind::Number),
         ("1 unpin 5 6", 1, 4, Kind::Surplus),
-        ("1 flush-begin", 1, 3, Kind::Missing),
-        ("1 flush-begin -", 1, 3, Kind::Number),
-        ("1 flush-begin 5 1", 1, 4, Kind::Surplus),
-        ("1 flush-end", 1, 3, Kind::Missing),
-        ("1 flush-end 5x", 1, 3, Kind::Number),
-        ("1 flush-end 5 6", 1, 4, Kind::Surplus),
-        ("1 flush-abort = 5", 1, 3, Kind::Missing),
-        ("1 flush-abort x", 1, 3, Kind::Number),
-        ("1 flush-abort 5 6", 1, 4, Kind::Surplus),
-        ("1 flush", 1, 3, Kind::Missing),
-        ("1 flush x 0", 1, 3, Kind::Number),
-        ("1 flush 5 x", 1, 4, Kind::Number),
-        ("1 flush 5 18446744073709551616", 1, 4, Kind::Number),
-        ("1 flush 5 0 1", 1, 4, Kind::Range),
-        ("1 flush 5 17", 1, 4, Kind::Range),
-        ("1 flush 5 16 16", 1, 5, Kind::Surplus),
-        ("1 flush-start 5", 1, 2, Kind::Unknown),
         ("budget", 1, 2, Kind::Missing),
         ("budget = 5", 1, 2, Kind::Missing),
         ("budget x", 1, 2, Kind::Number),
@@ -252,12 +269,64 @@ fn other_bytes_are_no_script(rt: HostRuntime) -> Result<(), Fail> {
         ("1 get 5@all", 1, 4, Kind::Missing),
         ("1 load 5@all 01 1", 1, 5, Kind::Surplus),
     ] {
-        let fault = read_script(alloc, script.as_bytes()).err();
-        let due = LineError::Fault(LineFault { line, word, kind });
-        assert!(rt; fault == Some(due), "{script}");
-        assert!(rt; journal(alloc, script.as_bytes())?.is_none(), "{script}");
+        assert!(rt; has_fault(alloc, script, line, word, kind)?, "{script}");
     }
     assert!(rt; journal(alloc, b"1 root 5\n\xff\n")?.is_none());
+    Ok(())
+}
+
+#[test]
+fn other_words_are_no_order_of_storages(rt: HostRuntime) -> Result<(), Fail> {
+    let alloc = rt.alloc();
+    for (script, line, word, kind) in [
+        ("1 flush-begin", 1, 3, Kind::Missing),
+        ("1 flush-begin -", 1, 3, Kind::Number),
+        ("1 flush-begin 5 1", 1, 4, Kind::Surplus),
+        ("1 flush-end", 1, 3, Kind::Missing),
+        ("1 flush-end 5x", 1, 3, Kind::Number),
+        ("1 flush-end 5 6", 1, 4, Kind::Surplus),
+        ("1 flush-abort = 5", 1, 3, Kind::Missing),
+        ("1 flush-abort x", 1, 3, Kind::Number),
+        ("1 flush-abort 5 6", 1, 4, Kind::Surplus),
+        ("1 flush", 1, 3, Kind::Missing),
+        ("1 flush x 0", 1, 3, Kind::Number),
+        ("1 flush 5 x", 1, 4, Kind::Number),
+        ("1 flush 5 18446744073709551616", 1, 4, Kind::Number),
+        ("1 flush 5 0 1", 1, 4, Kind::Range),
+        ("1 flush 5 17", 1, 4, Kind::Range),
+        ("1 flush 5 16 16", 1, 5, Kind::Surplus),
+        ("1 flush-start 5", 1, 2, Kind::Unknown),
+        ("1 lease", 1, 3, Kind::Missing),
+        ("1 lease ALL", 1, 3, Kind::Number),
+        ("1 lease 18446744073709551616 x", 1, 3, Kind::Number),
+        ("1 lease all all", 1, 4, Kind::Surplus),
+        ("1 end-lease", 1, 3, Kind::Missing),
+        ("1 end-lease -@all", 1, 3, Kind::Number),
+        ("1 end-lease 7 8", 1, 4, Kind::Surplus),
+        ("1 raise", 1, 3, Kind::Missing),
+        ("1 raise all", 1, 3, Kind::Number),
+        ("1 raise 8 7", 1, 4, Kind::Surplus),
+        ("1 clean", 1, 3, Kind::Missing),
+        ("1 clean all", 1, 3, Kind::Number),
+        ("1 clean 8 256", 1, 4, Kind::Surplus),
+        ("1 reclaim", 1, 3, Kind::Missing),
+        ("1 reclaim -- x", 1, 3, Kind::Key),
+        ("1 reclaim 0 256", 1, 3, Kind::Key),
+        (
+            "1 reclaim 000000000000000000000000000000000000000000000000000000000000000000 1",
+            1,
+            3,
+            Kind::Key,
+        ),
+        ("1 reclaim -", 1, 4, Kind::Missing),
+        ("1 reclaim 01 x", 1, 4, Kind::Number),
+        ("1 reclaim - 18446744073709551616", 1, 4, Kind::Number),
+        ("1 reclaim - 0", 1, 4, Kind::Range),
+        ("1 reclaim - 257 1", 1, 4, Kind::Range),
+        ("1 reclaim - 256 1", 1, 5, Kind::Surplus),
+    ] {
+        assert!(rt; has_fault(alloc, script, line, word, kind)?, "{script}");
+    }
     Ok(())
 }
 
@@ -391,6 +460,32 @@ fn refusals_are_printed(rt: HostRuntime) -> Result<(), Fail> {
             "1 root 6 = too-many-pins 64\n",
         ),
         (Refusal::NotPinned { id: 3 }, "1 root 6 = not-pinned 3\n"),
+        (
+            Refusal::NotLeased { max_root: 7 },
+            "1 root 6 = not-leased 7\n",
+        ),
+        (
+            Refusal::NotLeased { max_root: u64::MAX },
+            "1 root 6 = not-leased all\n",
+        ),
+        (
+            Refusal::PastRoot {
+                upto: 9,
+                newest: Some(8),
+            },
+            "1 root 6 = past-root 9 8\n",
+        ),
+        (
+            Refusal::PastRoot {
+                upto: 0,
+                newest: None,
+            },
+            "1 root 6 = past-root 0 none\n",
+        ),
+        (
+            Refusal::Leased { upto: 8, least: 7 },
+            "1 root 6 = leased 8 7\n",
+        ),
         (Refusal::NotRooted { slot: 7 }, "1 root 6 = not-rooted 7\n"),
         (
             Refusal::NothingCached { slot: 7 },

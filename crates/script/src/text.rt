@@ -1,4 +1,4 @@
-ghost use Rattle.std.specs.Prelude.{◌≡◌, ◌++◌, ◌∷◌, [], IfOk, OnOk};
+ghost use Rattle.std.specs.Prelude.{◌≡◌, ◌++◌, ◌∷◌, [], option_map, IfOk, OnOk};
 ghost use Rattle.std.specs.Fmt.{decimal};
 ghost use Rattle.std.specs.String.{string_bytes};
 ghost use Rattle.adb_model.specs.Seen.{call_of, counts_of, reply_of, place_of, refusal_of};
@@ -6,7 +6,7 @@ ghost use Rattle.script.specs.Said.{header_of};
 ghost use Rattle.script.specs.Text as texts;
 
 use crate::printed_view::PrintedView;
-use adb_model::{Account, Call, Place, Refusal, Reply, Stats};
+use adb_model::{Account, Call, Key, Place, Refusal, Reply, Slot, Stats};
 use std::alloc::{AllocError, Global};
 use std::fmt::Write;
 use text_fields::{push_hex, push_key, push_number};
@@ -73,6 +73,16 @@ pub fn push_max_root(text: &mut String, max_root: u64) -> Result<(), AllocError>
     push_number(text, max_root)
 }
 
+// Puts `-`, or the key after which to go on, at the end of a text.
+fn push_after(text: &mut String, after: &Option<Key>) -> Result<(), AllocError>
+    ensures { OnOk result (string_bytes text.new ≡ string_bytes text.old ++ texts.after_text (option_map (λ k. k.0) after.now)) }
+{
+    match after {
+        None => text.push_str("-"),
+        Some(key) => push_key(text, &key.0),
+    }
+}
+
 #[tactic(auto, unfolding(crate::specs::Text::call_text))]
 fn push_call(
     alloc: Global,
@@ -99,9 +109,23 @@ fn push_call(
             push_key(text, &key.0)
         }
         Call::Unpin { id } => write!(text, "unpin {id}"),
+        Call::Lease { max_root } => {
+            text.push_str("lease ")?;
+            push_max_root(text, *max_root)
+        }
+        Call::EndLease { max_root } => {
+            text.push_str("end-lease ")?;
+            push_max_root(text, *max_root)
+        }
         Call::FlushBegin { slot } => write!(text, "flush-begin {slot}"),
         Call::FlushEnd { slot } => write!(text, "flush-end {slot}"),
         Call::FlushAbort { slot } => write!(text, "flush-abort {slot}"),
+        Call::Raise { upto } => write!(text, "raise {upto}"),
+        Call::Reclaim { after, most } => {
+            text.push_str("reclaim ")?;
+            push_after(text, after)?;
+            write!(text, " {most}")
+        }
         Call::Stats => text.push_str("stats"),
     }
 }
@@ -112,6 +136,16 @@ fn push_place(text: &mut String, place: Place) -> Result<(), AllocError>
     match place {
         Place::Cached => text.push_str("cached"),
         Place::InStorage { id } => push_number(text, id),
+    }
+}
+
+// Puts the newest root, or `none`, at the end of a text.
+fn push_newest(text: &mut String, newest: Option<Slot>) -> Result<(), AllocError>
+    ensures { OnOk result (string_bytes text.new ≡ string_bytes text.old ++ texts.newest_text newest) }
+{
+    match newest {
+        None => text.push_str("none"),
+        Some(slot) => push_number(text, slot),
     }
 }
 
@@ -130,6 +164,10 @@ fn push_refusal(text: &mut String, refusal: Refusal) -> Result<(), AllocError>
         }
         Refusal::TooManyPins { most } => write!(text, "too-many-pins {most}"),
         Refusal::NotPinned { id } => write!(text, "not-pinned {id}"),
+        Refusal::NotLeased { max_root } => {
+            text.push_str("not-leased ")?;
+            push_max_root(text, max_root)
+        }
         Refusal::NotRooted { slot } => write!(text, "not-rooted {slot}"),
         Refusal::NothingCached { slot } => write!(text, "nothing-cached {slot}"),
         Refusal::Flushing { slot, id } => write!(text, "flushing {slot} {id}"),
@@ -141,6 +179,11 @@ fn push_refusal(text: &mut String, refusal: Refusal) -> Result<(), AllocError>
         } => write!(text, "full {used} {wanted} {limit}"),
         Refusal::NoCell { limit } => write!(text, "no-cell {limit}"),
         Refusal::IdsSpent => text.push_str("ids-spent"),
+        Refusal::PastRoot { upto, newest } => {
+            write!(text, "past-root {upto} ")?;
+            push_newest(text, newest)
+        }
+        Refusal::Leased { upto, least } => write!(text, "leased {upto} {least}"),
     }
 }
 
@@ -186,6 +229,12 @@ fn push_reply(text: &mut String, reply: &Reply) -> Result<(), AllocError>
             push_account(text, account)
         }
         Reply::FlushBegun { id, bytes } => write!(text, "ok {id} {bytes}"),
+        Reply::Raised { cleaned } => write!(text, "ok {cleaned}"),
+        Reply::Reclaimed { key } => {
+            text.push_str("ok ")?;
+            push_key(text, &key.0)
+        }
+        Reply::NothingLeft => text.push_str("done"),
         Reply::Counted { stats } => push_stats(text, stats),
     }
 }

@@ -53,8 +53,9 @@ fn ancestors(alloc: Global, word: &[u8]) -> Result<Option<Vec<u64>>, AllocError>
     numbers(alloc, &parts)
 }
 
+/// The greatest root that a word is: a number, or `all`.
 #[tactic(auto, unfolding(crate::specs::Arguments::max_root_of))]
-fn max_root(word: &[u8]) -> Option<u64>
+pub fn read_max_root(word: &[u8]) -> Option<u64>
     ensures { result ≡ words.max_root_of word.now }
 {
     if word == b"all".as_slice() {
@@ -72,7 +73,7 @@ fn read_view(alloc: Global, word: &[u8]) -> Result<Option<View>, AllocError>
     let Some(slots) = ancestors(alloc, front)? else {
         return Ok(None);
     };
-    let Some(most) = max_root(back) else {
+    let Some(most) = read_max_root(back) else {
         return Ok(None);
     };
     match View::from_vec(alloc, slots, most) {

@@ -1,4 +1,4 @@
-use Rattle.std.proofs.Common.{ℕ, Some, subst, ap, ◌∙◌}
+use Rattle.std.proofs.Common.{ℕ, Some, refl, subst, ap, ◌∙◌}
 use Rattle.adb_model.specs.Call as machine
 use Rattle.adb_model.specs.State.{State}
 use Rattle.adb_model.specs.Step.{step}
@@ -13,6 +13,9 @@ returns c = record {
   steady = λ p new start h pass call reply pins storages st after.
       steady_after c.histories_go_on.ensures.state start h pass call p new reply (c.pins_are_own.ensures.same (state_after start h) pass call pins)
       (c.flushes_stay_open.ensures.same (state_after start h) pass call storages) st after;
+  reclaimed = λ p new start h pass after most reply st made.
+      steady_after c.histories_go_on.ensures.state start h pass (machine.Reclaim after most) p new reply (c.pins_are_own.ensures.same (state_after start h) pass (machine.Reclaim after most) refl)
+      (c.reclaims_go_on.ensures.flushes (state_after start h) pass after most) st made;
   of_lane = λ p new after start h lane call reply storages is st same made.
       lane_after c.histories_go_on.ensures.state c.pins_are_own.ensures.others c.pins_are_own.ensures.others_of start h lane call p new after reply
       (c.flushes_stay_open.ensures.same (state_after start h) lane call storages) is st same made;

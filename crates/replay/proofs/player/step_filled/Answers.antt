@@ -1,47 +1,77 @@
-use Rattle.std.proofs.Common.{Some, refl, ap, ◌∙◌, sym}
+use Rattle.std.proofs.Common.{ℕ, List, Option, Some, refl, ap, ◌∙◌, sym, subst}
+use Rattle.std.specs.Option.{option_map}
+use Rattle.adb_model.specs.declared.key.Key.{Key}
+use Rattle.book_parts.specs.Stands.{After}
 use Rattle.adb_model.specs.Call as machine
 use Rattle.adb_model.specs.Seen.{call_of, counts_of}
-use Rattle.book.specs.Replies.{store_reply, root_reply, purge_reply}
+use Rattle.book.specs.Replies.{store_reply, root_reply, purge_reply, lease_reply, end_lease_reply, raise_reply, reclaim_reply}
 use Rattle.replay.specs.Standing.{told}
-use Rattle.replay.proofs.Asked.{as_asked}
+use Rattle.replay.proofs.Asked.{as_asked, key_lent}
 use Rattle.replay.proofs.player.step_filled.Goals as goal
 
-pub returns-in_ok-clone-in-Store : goal.returns-in_ok-clone-in-Store
-returns-in_ok-clone-in-Store g c start h st =
+pub returns-in_ok-clone-in-Store-clause-stands : goal.returns-in_ok-clone-in-Store-clause-stands
+returns-in_ok-clone-in-Store-clause-stands g c start h st =
     let call = machine.Store c.in-Store.slot c.in-Store.key.0 c.in_ok-clone-in-Store.field-0.value in
     as_asked _ start h c.args.lane call (call_of c.args.call.now) (store_reply c.store.result) (told c.stored.result)
     (ap call_of c.in-Store.is ∙ ap (λ a. machine.Store c.in-Store.slot c.in-Store.key.0 a) (sym c.in_ok-clone-in-Store.ensures.cases)) c.stored.ensures
     (c.lanes_go_on.ensures.steady _ c.store.new.self start h c.args.lane call (store_reply c.store.result) refl refl st (c.store.ensures start h c.args.lane st.book))
 
-pub returns-in-Root : goal.returns-in-Root
-returns-in-Root g c start h st =
+pub returns-in-Root-clause-stands : goal.returns-in-Root-clause-stands
+returns-in-Root-clause-stands g c start h st =
     let call = machine.Root c.in-Root.slot in
     as_asked _ start h c.args.lane call (call_of c.args.call.now) (root_reply c.root.result) (told c.rooted.result) (ap call_of c.in-Root.is) c.rooted.ensures
     (c.lanes_go_on.ensures.steady _ c.root.new.self start h c.args.lane call (root_reply c.root.result) refl refl st (c.root.ensures start h c.args.lane st.book))
 
-pub returns-in-Purge : goal.returns-in-Purge
-returns-in-Purge g c start h st =
+pub returns-in-Purge-clause-stands : goal.returns-in-Purge-clause-stands
+returns-in-Purge-clause-stands g c start h st =
     let call = machine.Purge c.in-Purge.slot in
     as_asked _ start h c.args.lane call (call_of c.args.call.now) (Some (purge_reply c.purge.result)) (told c.purged.result) (ap call_of c.in-Purge.is) c.purged.ensures
     (c.lanes_go_on.ensures.steady _ c.purge.new.self start h c.args.lane call (Some (purge_reply c.purge.result)) refl refl st (c.purge.ensures start h c.args.lane st.book))
 
-pub returns-in-FlushBegin : goal.returns-in-FlushBegin
-returns-in-FlushBegin g c start h st =
+pub returns-in-FlushBegin-clause-stands : goal.returns-in-FlushBegin-clause-stands
+returns-in-FlushBegin-clause-stands g c start h st =
     as_asked _ start h c.args.lane (machine.FlushBegin c.in-FlushBegin.slot) (call_of c.args.call.now) (told c.begin.result) (told c.begin.result) (ap call_of c.in-FlushBegin.is) refl
     (c.begin.ensures c.args.pins.now.items start h c.args.lane st)
 
-pub returns-in-FlushEnd : goal.returns-in-FlushEnd
-returns-in-FlushEnd g c start h st =
+pub returns-in-FlushEnd-clause-stands : goal.returns-in-FlushEnd-clause-stands
+returns-in-FlushEnd-clause-stands g c start h st =
     as_asked _ start h c.args.lane (machine.FlushEnd c.in-FlushEnd.slot) (call_of c.args.call.now) (told c.end.result) (told c.end.result) (ap call_of c.in-FlushEnd.is) refl
     (c.end.ensures c.args.pins.now.items start h c.args.lane st)
 
-pub returns-in-FlushAbort : goal.returns-in-FlushAbort
-returns-in-FlushAbort g c start h st =
+pub returns-in-FlushAbort-clause-stands : goal.returns-in-FlushAbort-clause-stands
+returns-in-FlushAbort-clause-stands g c start h st =
     as_asked _ start h c.args.lane (machine.FlushAbort c.in-FlushAbort.slot) (call_of c.args.call.now) (told c.abort.result) (told c.abort.result) (ap call_of c.in-FlushAbort.is) refl
     (c.abort.ensures c.args.pins.now.items start h c.args.lane st)
 
-pub returns-in-Stats : goal.returns-in-Stats
-returns-in-Stats g c start h st =
+pub returns-in-Stats-clause-stands : goal.returns-in-Stats-clause-stands
+returns-in-Stats-clause-stands g c start h st =
     let reply = Some (machine.Counted (counts_of c.stats.result)) in
     as_asked _ start h c.args.lane machine.Stats (call_of c.args.call.now) reply reply (ap call_of c.in-Stats.is) refl
     (c.lanes_go_on.ensures.steady _ c.args.book.now start h c.args.lane machine.Stats reply refl refl st (c.stats.ensures start h c.args.lane st.book))
+
+pub returns-in-Lease-clause-stands : goal.returns-in-Lease-clause-stands
+returns-in-Lease-clause-stands g c start h st =
+    let call = machine.Lease c.in-Lease.max_root in
+    as_asked _ start h c.args.lane call (call_of c.args.call.now) (lease_reply c.lease.result) (told c.leased.result) (ap call_of c.in-Lease.is) c.leased.ensures
+    (c.lanes_go_on.ensures.steady _ c.lease.new.self start h c.args.lane call (lease_reply c.lease.result) refl refl st (c.lease.ensures start h st.book))
+
+pub returns-in-EndLease-clause-stands : goal.returns-in-EndLease-clause-stands
+returns-in-EndLease-clause-stands g c start h st =
+    let call = machine.EndLease c.in-EndLease.max_root in
+    as_asked _ start h c.args.lane call (call_of c.args.call.now) (Some (end_lease_reply c.end_lease.result)) (told c.lease_ended.result) (ap call_of c.in-EndLease.is) c.lease_ended.ensures
+    (c.lanes_go_on.ensures.steady _ c.end_lease.new.self start h c.args.lane call (Some (end_lease_reply c.end_lease.result)) refl refl st (c.end_lease.ensures start h st.book))
+
+pub returns-in-Raise-clause-stands : goal.returns-in-Raise-clause-stands
+returns-in-Raise-clause-stands g c start h st =
+    let call = machine.Raise c.in-Raise.upto in
+    as_asked _ start h c.args.lane call (call_of c.args.call.now) (Some (raise_reply c.raise.result)) (told c.raised.result) (ap call_of c.in-Raise.is) c.raised.ensures
+    (c.lanes_go_on.ensures.steady _ c.raise.new.self start h c.args.lane call (Some (raise_reply c.raise.result)) refl refl st (c.raise.ensures start h c.args.lane st.book))
+
+pub returns-in-Reclaim-clause-stands : goal.returns-in-Reclaim-clause-stands
+returns-in-Reclaim-clause-stands g c start h st =
+    let after = option_map (λ (k : Key). k.0) c.in-Reclaim.after in
+    let most = c.in-Reclaim.most in
+    let reply = Some (reclaim_reply (option_map (λ (k : Key). k.0) c.reclaim.result)) in
+    as_asked _ start h c.args.lane (machine.Reclaim after most) (call_of c.args.call.now) reply (told c.reclaimed.result) (ap call_of c.in-Reclaim.is) c.reclaimed.ensures
+    (c.lanes_go_on.ensures.reclaimed _ c.reclaim.new.self start h c.args.lane after most reply st
+    (subst (λ (a : Option (List ℕ)). After c.reclaim.new.self start h c.args.lane (machine.Reclaim a most) reply) (key_lent c.as_ref.result c.in-Reclaim.after c.as_ref.ensures.value) (c.reclaim.ensures.stands start h c.args.lane st.book)))
