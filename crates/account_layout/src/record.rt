@@ -2,6 +2,7 @@
 ghost use Rattle.std.specs.Prelude.{◌≤◌, length};
 
 use adb_model::{Account, Head, Key};
+use le_fields::align8;
 use std::alloc::{AllocError, Global};
 
 // Bytes of a record before its data.
@@ -58,6 +59,19 @@ impl Record<'_> {
     ghost use Rattle.std.specs.Prelude.{◌≡◌, IfOk};
     ghost use Rattle.account_layout.specs.Record.{account_in};
     ghost use Rattle.account_layout.specs.Reading.{fields_of};
+    ghost use Rattle.adb_model.specs.Account.{size};
+
+    /// How many bytes the written record of the account takes, as [`stored_size`](crate::stored_size) says.
+    pub fn stored_size(&self) -> usize
+        ensures { result ≡ size (account_in (fields_of self.now)) }
+    {
+        let len = if self.head.lamports == 0 {
+            0
+        } else {
+            self.body.len()
+        };
+        align8((HEADER_LEN + len) as u64) as usize
+    }
 
     /// The account, with a copy of the data: the tomb where the record has no lamports, for which nothing
     /// is copied.

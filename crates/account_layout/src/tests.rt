@@ -41,6 +41,7 @@ fn a_record_is_written_byte_for_byte(rt: HostRuntime) -> Result<(), Fail> {
     }
     let record = read_record(&bytes, 0, 144).ok().ok_or("no record")?;
     assert_eq!(rt; record.end, 137);
+    assert_eq!(rt; record.stored_size(), 144);
     assert_eq!(rt; record.key, KEY);
     let read = record.account(rt.alloc())?;
     assert_eq!(rt; read.head(), account.head());
@@ -97,6 +98,7 @@ fn no_lamports_are_the_tomb(rt: HostRuntime) -> Result<(), Fail> {
     le_fields::put_u64(&mut bytes, 48, 0);
     let record = read_record(&bytes, 0, 144).ok().ok_or("no record")?;
     assert_eq!(rt; record.body, [7; 8].as_slice());
+    assert_eq!(rt; record.stored_size(), 136);
     let tomb = account(rt.alloc(), 0, &[])?;
     let read = record.account(rt.alloc())?;
     assert_eq!(rt; read.head(), tomb.head());

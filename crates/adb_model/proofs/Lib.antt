@@ -72,6 +72,20 @@ pub mod StoragesRetire
 pub mod StoragesRetireCounts
 pub mod CrowdedKeys
 pub mod ReclaimsGoOn
+pub mod CopiedRows
+pub mod CopiedCount
+pub mod ShrinkBegins
+pub mod OpenShrink
+pub mod HeldInUse
+pub mod ShrinksLeave
+pub mod ShrinkInstalls
+pub mod ShrinkDrops
+pub mod ShrinksStay
+pub mod Recycled
+pub mod StoragesFollow
+pub mod PinnedStay
+pub mod FillsOnce
+pub mod SparesLeave
 mod PlayedValues
 mod PlayedFirst
 mod PlayedFurther

@@ -45,7 +45,7 @@ module _ (m : State) (h : IsSound m) (g : Shrink) (c : Contains m.shrinks g) whe
       let n = new_of m h.ids g c in
       o.1 (sym (new_slot m h.ids k o.0 n.0 n.1.there (n.1.id ∙ sym e)) ∙ n.1.slot)
 
-  filled_stays : (u : Storage) → Contains m.storages u → IsFalse (is_filling u) → IsTrue (stays u)
+  pub filled_stays : (u : Storage) → Contains m.storages u → IsFalse (is_filling u) → IsTrue (stays u)
   filled_stays u d settled = not_from_false _ (ne_eqb u.id g.new (λ e. true≢false (sym (new_filling m h.ids g c u d e) ∙ settled)))
 
   -- a storage that stays is a copy as before

@@ -32,7 +32,7 @@ module _ (g : Shrink) (u : Storage) where
       (λ e. at_phase g.new Live (record u { phase = Retired }) P new (λ ne. old e))
       (λ ne. at_phase g.new Live u P new (λ nf. other nf ne))
 
-  id_same : (exchanged g u).id ≡ u.id
+  pub id_same : (exchanged g u).id ≡ u.id
   id_same = at_exchange (λ v. v.id ≡ u.id) (λ e. refl) (λ e. refl) (λ e f. refl)
 
   pub slot_same : (exchanged g u).slot ≡ u.slot
@@ -44,7 +44,7 @@ module _ (g : Shrink) (u : Storage) where
   pub bytes_same : (exchanged g u).bytes ≡ u.bytes
   bytes_same = at_exchange (λ v. v.bytes ≡ u.bytes) (λ e. refl) (λ e. refl) (λ e f. refl)
 
-  live_cases : IsTrue (is_live (exchanged g u)) → (u.id ≡ g.new) ⊎ (IsTrue (is_live u) × (u.id ≢ g.old))
+  pub live_cases : IsTrue (is_live (exchanged g u)) → (u.id ≡ g.new) ⊎ (IsTrue (is_live u) × (u.id ≢ g.old))
   live_cases = at_exchange (λ v. IsTrue (is_live v) → (u.id ≡ g.new) ⊎ (IsTrue (is_live u) × (u.id ≢ g.old))) (λ e live. inl e) (λ e live. absurd (true≢false (sym live))) (λ e f live. inr (live, f))
 
   pub filling_before : IsTrue (is_filling (exchanged g u)) → IsTrue (is_filling u) × (u.id ≢ g.new)
@@ -62,7 +62,7 @@ module _ (g : Shrink) (u : Storage) where
   new_live : g.new ≢ g.old → u.id ≡ g.new → IsTrue (is_live (exchanged g u))
   new_live apart n = at_exchange (λ v. IsTrue (is_live v)) (λ e. refl) (λ e. absurd (apart (sym n ∙ e))) (λ e f. absurd (e n))
 
-used_same : (g : Shrink) (us : List Storage) → sum_by (λ v. v.bytes) (map (exchanged g) us) ≡ sum_by (λ v. v.bytes) us
+pub used_same : (g : Shrink) (us : List Storage) → sum_by (λ v. v.bytes) (map (exchanged g) us) ≡ sum_by (λ v. v.bytes) us
 used_same g [] = refl
 used_same g (u ∷ us) = sum_by-cons (λ (v : Storage). v.bytes) (exchanged g u) (map (exchanged g) us) ∙ ap₂ (λ a b. a + b) (bytes_same g u) (used_same g us) ∙ sym (sum_by-cons (λ (v : Storage). v.bytes) u us)
 

@@ -25,6 +25,8 @@ pub mod Sound
 pub mod Once
 pub mod Cache
 pub mod Laws
+pub mod Shrinking
+pub mod Recycling
 pub mod Inside
 pub mod Seen
 pub mod RowBytes

@@ -52,6 +52,10 @@ call_of (calls.FlushEnd slot) = machine.FlushEnd slot
 call_of (calls.FlushAbort slot) = machine.FlushAbort slot
 call_of (calls.Raise upto) = machine.Raise upto
 call_of (calls.Reclaim after most) = machine.Reclaim (option_map (λ k. k.0) after) most
+call_of (calls.ShrinkBegin slot) = machine.ShrinkBegin slot
+call_of (calls.ShrinkEnd slot) = machine.ShrinkEnd slot
+call_of (calls.ShrinkAbort slot) = machine.ShrinkAbort slot
+call_of calls.Recycle = machine.Recycle
 call_of calls.Stats = machine.Stats
 
 -- the machine's place
@@ -77,6 +81,10 @@ refusal_of (refusals.NoCell limit) = machine.NoCell limit
 refusal_of refusals.IdsSpent = machine.IdsSpent
 refusal_of (refusals.PastRoot upto newest) = machine.PastRoot upto newest
 refusal_of (refusals.Leased upto least) = machine.Leased upto least
+refusal_of (refusals.NoStorage slot) = machine.NoStorage slot
+refusal_of (refusals.Shrinking slot id) = machine.Shrinking slot id
+refusal_of (refusals.NothingDead slot) = machine.NothingDead slot
+refusal_of (refusals.NotShrinking slot) = machine.NotShrinking slot
 
 -- the machine's counts
 abbrev pub counts_of : Stats → machine.Counts
@@ -102,6 +110,9 @@ reply_of (replies.FlushBegun id bytes) = machine.FlushBegun id bytes
 reply_of (replies.Raised cleaned) = machine.Raised cleaned
 reply_of (replies.Reclaimed key) = machine.Reclaimed key.0
 reply_of replies.NothingLeft = machine.NothingLeft
+reply_of (replies.ShrinkBegun old new bytes) = machine.ShrinkBegun old new bytes
+reply_of (replies.Superseded slot old) = machine.Superseded slot old
+reply_of (replies.Recycled storages) = machine.Recycled storages
 reply_of (replies.Counted stats) = machine.Counted (counts_of stats)
 
 -- the machine's event

@@ -61,6 +61,20 @@ pub enum Call {
         after: Option<Key>,
         most: usize,
     },
+    /// Begin a shrink: take a storage that the rows of the slot's storage are to be copied to which a load may find.
+    ShrinkBegin {
+        slot: Slot,
+    },
+    /// End a shrink: loads are answered from the copy from now on.
+    ShrinkEnd {
+        slot: Slot,
+    },
+    /// Give up a shrink, and its copy.
+    ShrinkAbort {
+        slot: Slot,
+    },
+    /// Free the storages that are no longer of use and that nobody pins.
+    Recycle,
     /// Count what the store has.
     Stats,
 }
@@ -109,6 +123,14 @@ pub enum Refusal {
     PastRoot { upto: Slot, newest: Option<Slot> },
     /// A raise above the least greatest root of all leases.
     Leased { upto: Slot, least: u64 },
+    /// A shrink of a slot that has no storage to answer loads.
+    NoStorage { slot: Slot },
+    /// A shrink of a slot whose shrink into the storage with this id is open.
+    Shrinking { slot: Slot, id: u64 },
+    /// A shrink of a slot whose storage has no row that loads find no more.
+    NothingDead { slot: Slot },
+    /// The end of a shrink that isn't open, or an abort of one.
+    NotShrinking { slot: Slot },
 }
 
 /// What the store has at one time.
@@ -168,6 +190,21 @@ pub enum Reply {
     },
     /// No crowded key was left.
     NothingLeft,
+    /// A shrink began, of the storage with the old id into the one with the new id, which has so many bytes.
+    ShrinkBegun {
+        old: u64,
+        new: u64,
+        bytes: u64,
+    },
+    /// A shrink ended, and its copy is gone: the slot's old storage was no longer of use.
+    Superseded {
+        slot: Slot,
+        old: u64,
+    },
+    /// So many storages are free again.
+    Recycled {
+        storages: u64,
+    },
     /// What the store has.
     Counted {
         stats: Stats,
@@ -216,6 +253,10 @@ impl Call {
                 after: *after,
                 most: *most,
             }),
+            Call::ShrinkBegin { slot } => Ok(Call::ShrinkBegin { slot: *slot }),
+            Call::ShrinkEnd { slot } => Ok(Call::ShrinkEnd { slot: *slot }),
+            Call::ShrinkAbort { slot } => Ok(Call::ShrinkAbort { slot: *slot }),
+            Call::Recycle => Ok(Call::Recycle),
             Call::Stats => Ok(Call::Stats),
         }
     }

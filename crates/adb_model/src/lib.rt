@@ -15,6 +15,8 @@ mod laws;
 mod passing;
 mod pinning;
 mod plain;
+mod recycling;
+mod shrinking;
 mod view;
 
 pub use account::{Account, Head, MAX_DATA_LEN, TooLong};
@@ -39,6 +41,11 @@ pub use laws::{
 pub use passing::{flushes_stay_open, loads_are_given_back, pins_are_own};
 pub use pinning::{pinned_storages_stand, pins_follow};
 pub use plain::plain_answer;
+pub use recycling::{pinned_storages_stay, spares_leave, storages_leave};
+pub use shrinking::{
+    filling_rows_differ, open_shrinks_stand, shrinks_are_given_up, shrinks_begin,
+    shrinks_copy_named_rows, shrinks_install, shrinks_stay_open,
+};
 pub use view::{MAX_ANCESTORS, View, ViewFault};
 
 #[cfg(test)]

@@ -165,6 +165,14 @@ fn a_copied_call_shares_its_account(rt: HostRuntime) -> Result<(), Fail> {
         Call::Reclaim { after, most } => assert_eq!(rt; (after, most), (Some(key(1)), 256)),
         _ => assert!(rt; false, "another call"),
     }
+    let shrink = Call::ShrinkBegin { slot: 5 }.try_copy(alloc)?;
+    assert!(rt; matches!(&shrink, Call::ShrinkBegin { slot: 5 }));
+    let end = Call::ShrinkEnd { slot: 5 }.try_copy(alloc)?;
+    assert!(rt; matches!(&end, Call::ShrinkEnd { slot: 5 }));
+    let abort = Call::ShrinkAbort { slot: 5 }.try_copy(alloc)?;
+    assert!(rt; matches!(&abort, Call::ShrinkAbort { slot: 5 }));
+    let recycle = Call::Recycle.try_copy(alloc)?;
+    assert!(rt; matches!(&recycle, Call::Recycle));
     let stats = Call::Stats.try_copy(alloc)?;
     assert!(rt; matches!(&stats, Call::Stats));
     Ok(())
