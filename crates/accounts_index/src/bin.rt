@@ -146,6 +146,20 @@ impl Bin {
     }
 
     #[tactic(auto, using(crate::proofs::Used::used_seen, crate::proofs::Ordered::seen_ordered))]
+    pub fn settle(&mut self, key: &Key, slot: Slot, place: Place)
+        requires there { IsSome (at slot (kept self.old key.now.0).versions) }
+        requires expected { among slot (kept self.old key.now.0).expected ≡ true }
+        requires absent { among slot (kept self.old key.now.0).held ≡ false }
+        ensures kept { let old = kept self.old key.now.0 in
+            IsWith self.old self.new key.now.0
+            (record { versions = rehomed slot place old.versions; held = with_slot slot old.held; expected = without_slot slot old.expected }) }
+        ensures used { AreUsed self.new }
+        ensures rise { IsOrdered self.new }
+    {
+        edits::settle(&mut self.entries, key, slot, place);
+    }
+
+    #[tactic(auto, using(crate::proofs::Used::used_seen, crate::proofs::Ordered::seen_ordered))]
     pub fn unhold(&mut self, key: &Key, slot: Slot)
         ensures kept { let old = kept self.old key.now.0 in
             IsWith self.old self.new key.now.0 (record old { held = without_slot slot old.held }) }

@@ -9,6 +9,7 @@ use crate::entry::{Entry, Lists};
 use crate::search::find_place;
 use adb_model::{Key, Slot};
 use slot_list::{Place, SlotList, Version};
+use smallvec::SmallVec;
 use std::alloc::{AllocError, Global};
 
 /// Up to so many entries a bin takes the memory of one more alone, since most bins stay small.
@@ -36,7 +37,7 @@ pub fn upsert(
         Err(place) => {
             let mut list = SlotList::new(alloc);
             list.put(version)?;
-            insert(entries, place, *key, list, Vec::new(alloc))
+            insert(entries, place, *key, list, SmallVec::new(alloc))
         }
     }
 }
@@ -86,7 +87,7 @@ fn insert(
     place: usize,
     key: Key,
     list: SlotList,
-    expected: Vec<u64>,
+    expected: SmallVec<u64, 1>,
 ) -> Result<(), AllocError>
     requires entries { AreEntries entries.old.items }
     requires gap { IsGap entries.old.items key.0 place }
@@ -136,14 +137,14 @@ pub fn expect(
     match find_place(entries, key) {
         Ok(place) => {
             let lists = &mut entries[place].lists;
-            lists.list.room(lists.expected.len() + 1)?;
+            lists.list.room(lists.expected.as_slice().len() + 1)?;
             lists.expected.push(slot)?;
             Ok(())
         }
         Err(place) => {
             let mut list = SlotList::new(alloc);
             list.room(1)?;
-            let mut expected = Vec::new(alloc);
+            let mut expected = SmallVec::new(alloc);
             expected.push(slot)?;
             insert(entries, place, *key, list, expected)
         }
@@ -184,6 +185,28 @@ pub fn hold(entries: &mut Vec<Entry>, key: &Key, slot: Slot)
     }
 }
 
+/// Gives the version of a slot another place, and holds the key in the slot, in which it is expected.
+pub fn settle(entries: &mut Vec<Entry>, key: &Key, slot: Slot, place: Place)
+    requires entries { AreEntries entries.old.items }
+    requires there { IsSome (at slot (kept (seen entries.old.items) key.now.0).versions) }
+    requires expected { among slot (kept (seen entries.old.items) key.now.0).expected ≡ true }
+    requires absent { among slot (kept (seen entries.old.items) key.now.0).held ≡ false }
+    ensures entries { AreEntries entries.new.items }
+    ensures kept { let old = kept (seen entries.old.items) key.now.0 in
+        IsWith (seen entries.old.items) (seen entries.new.items) key.now.0
+        (record { versions = rehomed slot place old.versions; held = with_slot slot old.held; expected = without_slot slot old.expected }) }
+{
+    match find_place(entries, key) {
+        Ok(found) => {
+            let lists = &mut entries[found].lists;
+            lists.list.rehome(slot, place);
+            lists.list.hold(slot);
+            forget(&mut lists.expected, slot);
+        }
+        Err(_) => unreachable!(),
+    }
+}
+
 /// Holds a key in a slot no longer.
 pub fn unhold(entries: &mut Vec<Entry>, key: &Key, slot: Slot)
     requires { AreEntries entries.old.items }
@@ -199,7 +222,7 @@ pub fn unhold(entries: &mut Vec<Entry>, key: &Key, slot: Slot)
 }
 
 /// Takes a slot out of a list.
-fn forget(slots: &mut Vec<u64>, slot: u64)
+fn forget(slots: &mut SmallVec<u64, 1>, slot: u64)
     ensures { slots.new.items ≡ without_slot slot slots.old.items }
 {
     slots.retain(|s| *s != slot);

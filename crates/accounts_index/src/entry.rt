@@ -4,6 +4,7 @@ ghost use Rattle.accounts_index.specs.Index.{is_crowded, is_stored};
 
 use adb_model::Key;
 use slot_list::{Place, SlotList, Version};
+use smallvec::SmallVec;
 
 /// A key with what is kept of it. A bin has few of them, so that an insertion moves little.
 #[derive(Drop)]
@@ -16,8 +17,9 @@ pub struct Entry {
 #[derive(Drop)]
 pub struct Lists {
     pub list: SlotList,
-    /// The slots in which the key will be held, each with room in `list`.
-    pub expected: Vec<u64>,
+    /// The slots in which the key will be held, each with room in `list`. The first one stands here itself, since most
+    /// keys are in one flush at a time.
+    pub expected: SmallVec<u64, 1>,
 }
 
 impl Entry {

@@ -168,6 +168,21 @@ impl AccountsIndex {
         bin.hold(key, slot);
     }
 
+    /// Does `rehome` and `hold` in one search. It takes no memory.
+    pub fn settle(&mut self, key: &Key, slot: Slot, place: Place)
+        requires there { IsSome (at slot (kept self.old key.now.0).versions) }
+        requires expected { among slot (kept self.old key.now.0).expected ≡ true }
+        requires absent { among slot (kept self.old key.now.0).held ≡ false }
+        ensures { let old = kept self.old key.now.0 in
+            IsWith self.old self.new key.now.0
+            (record { versions = rehomed slot place old.versions; held = with_slot slot old.held; expected = without_slot slot old.expected }) }
+    {
+        let number = bin_of(key);
+        let group = &mut self.groups[number / GROUP];
+        let bin = &mut group[number % GROUP];
+        bin.settle(key, slot, place);
+    }
+
     /// Holds a key in a slot no longer.
     pub fn unhold(&mut self, key: &Key, slot: Slot)
         ensures { let old = kept self.old key.now.0 in

@@ -118,6 +118,19 @@ fn an_expected_slot_is_held_and_let_go(rt: HostRuntime) -> Result<(), Fail> {
     Ok(())
 }
 
+#[test]
+fn a_settled_version_has_its_place_and_is_held(rt: HostRuntime) -> Result<(), Fail> {
+    let key = key(1);
+    let mut index = AccountsIndex::new(rt.alloc())?;
+    index.expect(&key, 5)?;
+    index.upsert(&key, version(5, Place::Cached, true))?;
+    assert!(rt; index.version(&key, 5).is_some());
+    index.settle(&key, 5, STORED);
+    assert_eq!(rt; index.version(&key, 5), Some(version(5, STORED, true)));
+    assert_eq!(rt; find(&index, &key), Some((1, 1)));
+    Ok(())
+}
+
 // A key that begins with four bytes, and goes on high.
 fn key_from(first: [u8; 4]) -> Key {
     let mut bytes = [255; 32];

@@ -11,7 +11,7 @@ use smallvec::SmallVec;
 use std::alloc::AllocError;
 
 /// Puts a version at its place, in place of one of its slot.
-pub fn put_version(versions: &mut SmallVec<Version, 1>, version: Version) -> Result<(), AllocError>
+pub fn put_version(versions: &mut SmallVec<Version, 2>, version: Version) -> Result<(), AllocError>
     requires { VersionsRise versions.old.items }
     ensures rise { VersionsRise versions.new.items }
     ensures ok { OnOk result (versions.new.items ≡ put version versions.old.items) }
@@ -30,7 +30,7 @@ pub fn put_version(versions: &mut SmallVec<Version, 1>, version: Version) -> Res
 
 /// A new version at its place.
 fn insert_version(
-    versions: &mut SmallVec<Version, 1>,
+    versions: &mut SmallVec<Version, 2>,
     place: usize,
     version: Version,
 ) -> Result<(), AllocError>
@@ -43,7 +43,7 @@ fn insert_version(
 }
 
 /// Takes the version of a slot out, and says whether there was one.
-pub fn take_version(versions: &mut SmallVec<Version, 1>, slot: u64) -> bool
+pub fn take_version(versions: &mut SmallVec<Version, 2>, slot: u64) -> bool
     requires { VersionsRise versions.old.items }
     ensures rise { VersionsRise versions.new.items }
     ensures there { result ≡ is_some (at slot versions.old.items) }
@@ -59,7 +59,7 @@ pub fn take_version(versions: &mut SmallVec<Version, 1>, slot: u64) -> bool
 }
 
 /// Gives the version of a slot another place.
-pub fn rehome_version(versions: &mut SmallVec<Version, 1>, slot: u64, place: Place)
+pub fn rehome_version(versions: &mut SmallVec<Version, 2>, slot: u64, place: Place)
     requires rise { VersionsRise versions.old.items }
     requires there { IsSome (at slot versions.old.items) }
     ensures rise { VersionsRise versions.new.items }

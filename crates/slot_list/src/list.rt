@@ -15,8 +15,8 @@ use view_sets::RootSet;
 /// What is kept of one key: its versions by rising slot, and the slots in which it is held.
 #[derive(Drop)]
 pub struct SlotList {
-    /// The first one stands in the list itself, since most keys have no more.
-    versions: SmallVec<Version, 1>,
+    /// The first two stand in the list itself: most keys have one, and one more between a store and the next clean.
+    versions: SmallVec<Version, 2>,
     held: Vec<u64>,
 }
 

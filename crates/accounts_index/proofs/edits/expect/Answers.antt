@@ -30,7 +30,7 @@ returns-in_err-push-in-Ok-clause-err c =
     let read = c.index_mut.ensures.value in
     let lists = e.lists in
     let now : Entry = record e { lists = record lists { list = c.room.new.self; expected = c.push.new.self } } in
-    let same : kept_of now.lists ≡ kept_of lists = λ j. record { versions = c.room.ensures.versions j; held = c.room.ensures.held j; expected = c.in_err-push-in-Ok.ensures.items j } in
+    let same : kept_of now.lists ≡ kept_of lists = λ j. record { versions = c.room.ensures.versions j; held = c.room.ensures.held j; expected = (c.in_err-push-in-Ok.ensures.err j).items } in
     on_err_any c.from_residual-in_err-push-in-Ok.result (seen_same es c.in-Ok.place e now found.in_range read refl same)
 
 pub returns-in_ok-push-in-Ok-clause-ok : goal.returns-in_ok-push-in-Ok-clause-ok
@@ -43,7 +43,7 @@ returns-in_ok-push-in-Ok-clause-ok c =
     let lists = e.lists in
     let now : Entry = record e { lists = record lists { list = c.room.new.self; expected = c.push.new.self } } in
     IsWith-to _ _ key _ _ (IsWith-write es key c.in-Ok.place found e read now refl)
-    ((λ j. record { versions = c.room.ensures.versions j; held = c.room.ensures.held j; expected = c.in_ok-push-in-Ok.ensures.items j })
+    ((λ j. record { versions = c.room.ensures.versions j; held = c.room.ensures.held j; expected = c.in_ok-push-in-Ok.ensures.ok j })
     ∙ ap (λ (k : Kept). record k { expected = k.expected ++ c.args.slot ∷ [] }) (sym (read_kept es key c.in-Ok.place found e read)))
 
 -- ---- the key is not there
@@ -56,7 +56,7 @@ returns-in_ok-push-in-Err-clause-ok c =
     let none = kept_gap es key c.in-Err.place gap in
     let versions : c.room-in-Err.new.self.versions ≡ [] = c.room-in-Err.ensures.versions ∙ c.new-list.ensures.versions in
     let held : c.room-in-Err.new.self.held ≡ [] = c.room-in-Err.ensures.held ∙ c.new-list.ensures.held in
-    let expected : c.push-in-Err.new.self.items ≡ c.args.slot ∷ [] = c.in_ok-push-in-Err.ensures.items ∙ ap (λ (l : List _). l ++ c.args.slot ∷ []) c.new-expected.ensures.items in
+    let expected : c.push-in-Err.new.self.items ≡ c.args.slot ∷ [] = c.in_ok-push-in-Err.ensures.ok ∙ ap (λ (l : List _). l ++ c.args.slot ∷ []) c.new-expected.ensures.items in
     on_ok_weaker c.insert.result (λ made.
     IsWith-to _ _ key _ _ made
     ((λ j. record { versions = versions j; held = held j; expected = expected j })
