@@ -1,5 +1,5 @@
 -- The entries of the maps, and the rows that they stand for.
-use Rattle.std.proofs.Common.{◌≡◌, ℕ, suc, ◌+◌, ◌<◌, ◌≤◌, List, [], ◌∷◌, length, map, Bool, true, false, cond, not, eqb, Option, Some, None, IsSome, is_some, option_map, unwrap_or, refl, sym, ap, subst, ◌∙◌, inl, inr, arith, sum_by, find}
+use Rattle.std.proofs.Common.{◌≡◌, ℕ, suc, ◌+◌, ◌<◌, ◌≤◌, List, [], ◌∷◌, length, map, Bool, true, false, cond, eqb, Option, Some, None, IsSome, is_some, option_map, unwrap_or, refl, sym, ap, subst, ◌∙◌, inl, inr, arith, sum_by, find}
 use Rattle.std.specs.Map.{lookup, values_of, keys_of, set_value, remove_entry}
 use Rattle.std.specs.BTreeMap as tree
 use Rattle.std.specs.List.Sorted.{IsStrictlySortedBy}
@@ -123,10 +123,13 @@ module _ {S Z : Type 0} where
 
   -- ---- how many rows there are
 
-  pub total-set_value : (es : Entries S Z) (q x : ℕ) (m w : RowMap S Z) → Some m ≡ lookup (is_at (nat_cmp q)) es → length w.entries ≡ length m.entries + x → total (seen (set_value (is_at (nat_cmp q)) es w)) ≡ total (seen es) + x
-  total-set_value es q x m w there longer =
+  pub total-written : (es : Entries S Z) (q : ℕ) (m w : RowMap S Z) → Some m ≡ lookup (is_at (nat_cmp q)) es → total (seen (set_value (is_at (nat_cmp q)) es w)) + length m.entries ≡ total (seen es) + length w.entries
+  total-written es q m w there =
       let sums = sum_by-set_value (λ (v : RowMap S Z). length v.entries) (is_at (nat_cmp q)) es m w (sym there) in
       omega (arith, total-seen (set_value (is_at (nat_cmp q)) es w), total-seen es, sums)
+
+  pub total-set_value : (es : Entries S Z) (q x : ℕ) (m w : RowMap S Z) → Some m ≡ lookup (is_at (nat_cmp q)) es → length w.entries ≡ length m.entries + x → total (seen (set_value (is_at (nat_cmp q)) es w)) ≡ total (seen es) + x
+  total-set_value es q x m w there longer = omega (arith, longer, total-written es q m w there)
 
   pub total-insert_entry : (es : Entries S Z) (q : ℕ) (m : RowMap S Z) → IsStrictlySortedBy nat_cmp (keys_of es) → None ≡ lookup (is_at (nat_cmp q)) es → total (seen (tree.insert_entry nat_cmp es q m)) ≡ total (seen es) + length m.entries
   total-insert_entry es q m up none =
@@ -150,10 +153,6 @@ pub le_not_above : (a b : ℕ) → a ≤ b → is_gt (nat_cmp a b) ≡ false
 le_not_above a b le = grind (arith, nat_tests)
 
 -- ---- the rows of one slot
-
-pub not_turned : (a b : Bool) → a ≡ not b → b ≡ not a
-not_turned a true e = ap not (sym e)
-not_turned a false e = ap not (sym e)
 
 module _ {Z : Type 0} where
   value_cond : (b : Bool) (a : Arc Account Z) (o : Option (Arc Account Z)) → option_map (λ a. a.value) (cond b (Some a) o) ≡ cond b (Some a.value) (option_map (λ a. a.value) o)

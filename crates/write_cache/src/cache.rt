@@ -1,9 +1,9 @@
-ghost use Rattle.std.specs.Prelude.{◌≡◌, ◌+◌, ◌-◌, ◌^◌, if◌then◌else◌, [], length, option_map, option_copied, slice_get, None, OnOk, OnErr, IsOk, IsErr, IsSome, is_some};
+ghost use Rattle.std.specs.Prelude.{◌≡◌, ◌+◌, ◌-◌, ◌^◌, ◌<◌, if◌then◌else◌, [], length, take, option_map, option_copied, slice_get, None, IfOk, OnOk, OnErr, IsOk, IsErr, IsSome, is_some};
 ghost use Rattle.adb_model.specs.Cache.{put_row};
 ghost use Rattle.write_cache.specs.Inside.{borrowed_row};
 ghost use Rattle.write_cache.specs.Rows.{rows, total, account_at, IsWith, IsNextSlot};
 
-use crate::slots::{Slots, drop_rows, has_row, next_from, put_in, row_at};
+use crate::slots::{Slots, drop_rows, has_row, keep_rows, next_from, put_in, row_at};
 use adb_model::{Account, Key, Slot};
 use std::alloc::{AllocError, Global};
 use std::collections::BTreeMap;
@@ -50,13 +50,47 @@ impl WriteCache {
         ensures full { total self.old ≡ 2 ^ 64 - 1 → account_at (rows self.old slot) key.0 ≡ None → IsErr result }
         ensures err { OnErr result (self.new ≡ self.old) }
     {
+        let _ = self.insert(slot, key, account)?;
+        Ok(())
+    }
+
+    /// Does what `put` does, and gives the account that was replaced.
+    pub fn insert(
+        &mut self,
+        slot: Slot,
+        key: Key,
+        account: Arc<Account>,
+    ) -> Result<Option<Arc<Account>>, AllocError>
+        ensures replaced { IfOk result (λ replaced. option_map (λ a. a.value) replaced ≡ account_at (rows self.old slot) key.0) }
+        ensures rows { OnOk result (IsWith self.old self.new slot (put_row (rows self.old slot) key.0 account.value)) }
+        ensures total { OnOk result (total self.new ≡ total self.old + (if is_some (account_at (rows self.old slot) key.0) then 0 else 1)) }
+        ensures replaces { IsSome (account_at (rows self.old slot) key.0) → IsOk result }
+        ensures full { total self.old ≡ 2 ^ 64 - 1 → account_at (rows self.old slot) key.0 ≡ None → IsErr result }
+        ensures err { OnErr result (self.new ≡ self.old) }
+    {
         if self.total == u64::MAX && !has_row(&self.slots, slot, &key) {
             return Err(AllocError);
         }
-        if put_in(&mut self.slots, self.alloc, slot, key, account)? {
+        let replaced = put_in(&mut self.slots, self.alloc, slot, key, account)?;
+        if replaced.is_none() {
             self.total += 1;
         }
-        Ok(())
+        Ok(replaced)
+    }
+
+    /// Lets go of the last row of a slot, as before the `insert` that made it. It takes no memory.
+    pub fn take_last(&mut self, slot: Slot)
+        requires { 0 < length (rows self.old slot) }
+        ensures rows { IsWith self.old self.new slot (take (length (rows self.old slot) - 1) (rows self.old slot)) }
+        ensures total { total self.old ≡ total self.new + 1 }
+    {
+        let count = self.count(slot);
+        if count == 1 {
+            let _ = drop_rows(&mut self.slots, slot);
+        } else {
+            keep_rows(&mut self.slots, slot, count - 1);
+        }
+        self.total -= 1;
     }
 
     /// The account that a key has in a slot.

@@ -1,4 +1,4 @@
-ghost use Rattle.std.specs.Prelude.{◌≡◌, ◌+◌, ◌≤◌, if◌then◌else◌, [], ◌∷◌, length, not, option_map, slice_get, OnOk, OnErr, IfOk, IsOk, IsSome, is_some};
+ghost use Rattle.std.specs.Prelude.{◌≡◌, ◌+◌, ◌≤◌, ◌<◌, if◌then◌else◌, [], ◌∷◌, length, take, option_map, slice_get, OnOk, OnErr, IfOk, IsOk, IsSome, is_some};
 ghost use Rattle.adb_model.specs.Cache.{put_row};
 ghost use Rattle.write_cache.specs.Inside.{borrowed_row, rows_of, seen, AreFilled};
 ghost use Rattle.write_cache.specs.Rows.{rows, total, account_at, IsWith, IsNextSlot};
@@ -25,19 +25,19 @@ pub fn has_row(slots: &Slots, slot: Slot, key: &Key) -> bool
     }
 }
 
-/// Puts an account in, and says whether its key had none in the slot before.
+/// Puts an account in, and gives the one that its key had in the slot before.
 pub fn put_in(
     slots: &mut Slots,
     alloc: Global,
     slot: Slot,
     key: Key,
     account: Arc<Account>,
-) -> Result<bool, AllocError>
+) -> Result<Option<Arc<Account>>, AllocError>
     requires { AreFilled slots.old.entries }
     ensures filled { AreFilled slots.new.entries }
-    ensures further { IfOk result (λ further. further ≡ not (is_some (account_at (rows (seen slots.old.entries) slot) key.0))) }
+    ensures replaced { IfOk result (λ replaced. option_map (λ a. a.value) replaced ≡ account_at (rows (seen slots.old.entries) slot) key.0) }
     ensures rows { OnOk result (IsWith (seen slots.old.entries) (seen slots.new.entries) slot (put_row (rows (seen slots.old.entries) slot) key.0 account.value)) }
-    ensures total { IfOk result (λ further. total (seen slots.new.entries) ≡ total (seen slots.old.entries) + (if further then 1 else 0)) }
+    ensures total { IfOk result (λ replaced. total (seen slots.new.entries) ≡ total (seen slots.old.entries) + (if is_some replaced then 0 else 1)) }
     ensures replaces { IsSome (account_at (rows (seen slots.old.entries) slot) key.0) → IsOk result }
     ensures err { OnErr result (seen slots.new.entries ≡ seen slots.old.entries) }
 {
@@ -46,19 +46,23 @@ pub fn put_in(
     }
     let rows = first_row(alloc, key, account)?;
     slots.insert(slot, rows)?;
-    Ok(true)
+    Ok(None)
 }
 
-fn put_in_rows(rows: &mut Rows, key: Key, account: Arc<Account>) -> Result<bool, AllocError>
+fn put_in_rows(
+    rows: &mut Rows,
+    key: Key,
+    account: Arc<Account>,
+) -> Result<Option<Arc<Account>>, AllocError>
     ensures rows { OnOk result (rows_of rows.new ≡ put_row (rows_of rows.old) key.0 account.value) }
-    ensures further { IfOk result (λ further. further ≡ not (is_some (account_at (rows_of rows.old) key.0))) }
-    ensures len { IfOk result (λ further. length rows.new.entries ≡ length rows.old.entries + (if further then 1 else 0)) }
+    ensures replaced { IfOk result (λ replaced. option_map (λ a. a.value) replaced ≡ account_at (rows_of rows.old) key.0) }
+    ensures len { IfOk result (λ replaced. length rows.new.entries ≡ length rows.old.entries + (if is_some replaced then 0 else 1)) }
     ensures replaces { IsSome (account_at (rows_of rows.old) key.0) → IsOk result }
     ensures never_less { length rows.old.entries ≤ length rows.new.entries }
     ensures err { OnErr result (rows.new.entries ≡ rows.old.entries) }
 {
     let replaced = rows.insert(key, account)?;
-    Ok(replaced.is_none())
+    Ok(replaced)
 }
 
 fn first_row(alloc: Global, key: Key, account: Arc<Account>) -> Result<Rows, AllocError>
@@ -80,6 +84,21 @@ pub fn drop_rows(slots: &mut Slots, slot: Slot) -> usize
     match slots.remove(&slot) {
         Some(rows) => rows.len(),
         None => 0,
+    }
+}
+
+/// Lets go of all rows of a slot but the first ones, so many.
+pub fn keep_rows(slots: &mut Slots, slot: Slot, count: usize)
+    requires filled { AreFilled slots.old.entries }
+    requires some { 0 < count }
+    requires fewer { count < length (rows (seen slots.old.entries) slot) }
+    ensures filled { AreFilled slots.new.entries }
+    ensures rows { IsWith (seen slots.old.entries) (seen slots.new.entries) slot (take count (rows (seen slots.old.entries) slot)) }
+    ensures total { total (seen slots.old.entries) + count ≡ total (seen slots.new.entries) + length (rows (seen slots.old.entries) slot) }
+{
+    match slots.get_mut(&slot) {
+        Some(rows) => rows.truncate(count),
+        None => unreachable!(),
     }
 }
 

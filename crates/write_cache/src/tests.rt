@@ -58,3 +58,26 @@ fn a_dropped_slot_lets_go_of_its_accounts(rt: HostRuntime) -> Result<(), Fail> {
     assert_eq!(rt; cache.total(), 1);
     Ok(())
 }
+
+#[test]
+fn an_insert_gives_the_account_before_and_is_undone(rt: HostRuntime) -> Result<(), Fail> {
+    let mut cache = WriteCache::new(rt.alloc());
+    for (slot, first, lamports, before) in [
+        (5, 9, 1, None),
+        (5, 9, 2, Some(1)),
+        (5, 2, 3, None),
+        (8, 9, 4, None),
+    ] {
+        let replaced = cache.insert(slot, key(first), account(&rt, lamports)?)?;
+        let replaced = replaced.map(|account| account.head().lamports);
+        assert_eq!(rt; replaced, before);
+    }
+    for (slot, left, total) in [(5, 1, 2), (5, 0, 1), (8, 0, 0)] {
+        assert!(rt; cache.count(slot) > 0);
+        cache.take_last(slot);
+        assert_eq!(rt; cache.count(slot), left);
+        assert_eq!(rt; cache.total(), total);
+    }
+    assert_eq!(rt; cache.next_slot(0), None);
+    Ok(())
+}

@@ -1,4 +1,4 @@
-use Rattle.std.proofs.Common.{◌<◌, ◌+◌, Some, List, cond, ap, sym, subst, ◌∙◌, refl, not, arith, length}
+use Rattle.std.proofs.Common.{◌<◌, ◌+◌, Some, List, cond, ap, sym, subst, ◌∙◌, refl, arith, length}
 use Rattle.std.specs.Option.{is_some}
 use Rattle.std.specs.Map.{lookup}
 use Rattle.std.specs.BTreeMap as tree
@@ -33,10 +33,10 @@ returns-in-Some-clause-err c =
     on_err_weaker c.put_in_rows.result (λ same.
     ap seen (c.get_mut.follows.holds c.put_in_rows.new.rows).0 ∙ seen-set_value es c.args.slot c.in-Some.rows.now c.put_in_rows.new.rows c.in-Some.ensures.value same) c.put_in_rows.ensures.err
 
-pub returns-in-Some-clause-further : goal.returns-in-Some-clause-further
-returns-in-Some-clause-further c =
+pub returns-in-Some-clause-replaced : goal.returns-in-Some-clause-replaced
+returns-in-Some-clause-replaced c =
     let had = rows_some c.args.slots.now.entries c.args.slot c.in-Some.rows.now c.in-Some.ensures.value in
-    rw had c.put_in_rows.ensures.further
+    rw had c.put_in_rows.ensures.replaced
 
 pub returns-in-Some-clause-replaces : goal.returns-in-Some-clause-replaces
 returns-in-Some-clause-replaces c =
@@ -46,9 +46,9 @@ returns-in-Some-clause-replaces c =
 pub returns-in-Some-clause-total : goal.returns-in-Some-clause-total
 returns-in-Some-clause-total c =
     let es = c.args.slots.now.entries in
-    IfOk-weaker c.put_in_rows.result _ _ (λ further longer.
+    IfOk-weaker c.put_in_rows.result _ _ (λ replaced longer.
     ap (λ l. total (seen l)) (c.get_mut.follows.holds c.put_in_rows.new.rows).0
-    ∙ total-set_value es c.args.slot (cond further 1 0) c.in-Some.rows.now c.put_in_rows.new.rows c.in-Some.ensures.value longer) c.put_in_rows.ensures.len
+    ∙ total-set_value es c.args.slot (cond (is_some replaced) 0 1) c.in-Some.rows.now c.put_in_rows.new.rows c.in-Some.ensures.value longer) c.put_in_rows.ensures.len
 
 pub returns-in-Some-clause-filled : goal.returns-in-Some-clause-filled
 returns-in-Some-clause-filled c =
@@ -69,9 +69,9 @@ returns-clause-rows c =
     (IsWith-updates es c.insert.new.self.entries s (Some c.in_ok-rows.rows)
     (λ q. c.in_ok-insert.ensures.updates.0 q ∙ ap (λ m. cond (is_at (nat_cmp s) q) (Some c.in_ok-rows.rows) (lookup (is_at (nat_cmp q)) m.entries)) c.get_mut.follows.holds-at-none))
 
-pub returns-clause-further : goal.returns-clause-further
-returns-clause-further c =
-    sym (ap (λ r. not (is_some (account_at r c.args.key.0))) (rows_none c.args.slots.now.entries c.args.slot c.in_default.ensures.value))
+pub returns-clause-replaced : goal.returns-clause-replaced
+returns-clause-replaced c =
+    sym (ap (λ r. account_at r c.args.key.0) (rows_none c.args.slots.now.entries c.args.slot c.in_default.ensures.value))
 
 pub returns-clause-filled : goal.returns-clause-filled
 returns-clause-filled c =
