@@ -70,7 +70,7 @@ module _ (p : Parts) (m : State) (slot cell : ℕ) (written : List Row) (index :
       (λ q t f. absurd (true≢false (sym t)))
       (λ q t. (filling_with m slot written, here q t, (refl, refl)))
       (λ q f g. b.with_id q ∙ ap (λ c. cond c (Some (filling_with m slot written)) (storage_with m q)) g)
-      (λ q. refl)
+      (λ q f g. refl)
       (omega (arith, b.storages))
 
   keeps : (u : Storage) (k : ℕ) → has_id u.id (cell_at p.cells.cells k) ≡ true → has_id u.id (cell_at cells k) ≡ true
@@ -131,5 +131,5 @@ module _ (p : Parts) (m : State) (slot cell : ℕ) (written : List Row) (index :
     counts = counted;
     limit = r.limit;
     next_id = ap (λ x. x + 1) r.next_id;
-    others = record { shrinks = r.others.shrinks; snap = r.others.snap };
+    no_snap = r.no_snap;
   }

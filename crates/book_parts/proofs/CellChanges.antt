@@ -48,7 +48,7 @@ module _ (cells : List (Phase Shared)) (i : ℕ) (was now : Phase Shared) (lt : 
       (gone : (q : ℕ) → has_id q was ≡ true → has_id q now ≡ false → storage_with n q ≡ None)
       (fits : (q : ℕ) → has_id q now ≡ true → (t : Storage) × (storage_with n q ≡ Some t) × IsCellOf t (pin_count n q) now)
       (stay : (q : ℕ) → has_id q was ≡ false → has_id q now ≡ false → storage_with n q ≡ storage_with m q)
-      (pinned : (q : ℕ) → pin_count n q ≡ pin_count m q) where
+      (pinned : (q : ℕ) → has_id q was ≡ false → has_id q now ≡ false → pin_count n q ≡ pin_count m q) where
     other : (k q : ℕ) → (k ≡ i → ⊥) → has_id q (cell_at changed k) ≡ true → has_id q (cell_at cells k) ≡ true
     other k q ne h = ap (has_id q) (sym (cell_other k ne)) ∙ h
 
@@ -75,11 +75,11 @@ module _ (cells : List (Phase Shared)) (i : ℕ) (was now : Phase Shared) (lt : 
       | inr ne ↦
           let had = other k q ne h in
           let o = f.each k q had in
-          let same : storage_with n q ≡ storage_with m q = elim (cases_Bool (has_id q was)) [
+          let same : (storage_with n q ≡ storage_with m q) × (pin_count n q ≡ pin_count m q) = elim (cases_Bool (has_id q was)) [
             | inl t ↦ absurd (ne (f.apart k i q had (ap (has_id q) is ∙ t)))
-            | inr u ↦ elim (cases_Bool (has_id q now)) [ inl t ↦ absurd (clash k q ne t had) | inr v ↦ stay q u v ]
+            | inr u ↦ elim (cases_Bool (has_id q now)) [ inl t ↦ absurd (clash k q ne t had) | inr v ↦ (stay q u v, pinned q u v) ]
           ] in
-          (o.0, same ∙ o.1, subst (IsCellOf o.0 (pin_count n q)) (sym (cell_other k ne)) (subst (λ c. IsCellOf o.0 c (cell_at cells k)) (sym (pinned q)) o.2))
+          (o.0, same.0 ∙ o.1, subst (IsCellOf o.0 (pin_count n q)) (sym (cell_other k ne)) (subst (λ c. IsCellOf o.0 c (cell_at cells k)) (sym same.1) o.2))
     ]
 
     cell_of : (q : ℕ) (t : Storage) → storage_with n q ≡ Some t → (k : ℕ) × (has_id q (cell_at changed k) ≡ true)

@@ -76,7 +76,7 @@ module _ (p : Parts) (m : State) (slot cell : ℕ) (t : Storage) (index : Index)
       (λ q h f. d.with_id q ∙ ap (λ b. cond b None (storage_with m q)) h)
       (λ q h. absurd (true≢false (sym h)))
       (λ q f g. d.with_id q ∙ ap (λ b. cond b None (storage_with m q)) f)
-      (λ q. refl)
+      (λ q f g. refl)
       (omega (arith, d.storages))
 
   keeps : (u : Storage) (k : ℕ) → (u.id ≡ t.id → ⊥) → has_id u.id (cell_at p.cells.cells k) ≡ true → has_id u.id (cell_at cells k) ≡ true
@@ -137,5 +137,5 @@ module _ (p : Parts) (m : State) (slot cell : ℕ) (t : Storage) (index : Index)
     counts = counted;
     limit = r.limit;
     next_id = r.next_id;
-    others = record { shrinks = r.others.shrinks; snap = r.others.snap };
+    no_snap = r.no_snap;
   }

@@ -203,5 +203,5 @@ module _ (p : Parts) (m : State) (slot : ℕ) (key : List ℕ) (h : IsSoundMidwa
       counts = counted;
       limit = r.limit;
       next_id = r.next_id;
-      others = record { shrinks = r.others.shrinks; snap = r.others.snap };
+      no_snap = r.no_snap;
     }

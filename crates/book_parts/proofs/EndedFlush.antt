@@ -85,7 +85,7 @@ mark_moved cell offset None tomb cached e = absurd (none_some e)
 mark_moved cell offset (Some i) tomb cached e = ap (λ (b : Bool). mark true b false) (ap (λ (x : Bool × Bool). x.0) (some_is e))
 
 -- where it moves to
-moved_is : (cell offset : ℕ) (i : Option (Bool × Place)) (tomb : Bool) (at place : ℕ) → moved cell (Some offset) i ≡ Some (tomb, Stored at place) → (cell ≡ at) × (offset ≡ place)
+pub moved_is : (cell offset : ℕ) (i : Option (Bool × Place)) (tomb : Bool) (at place : ℕ) → moved cell (Some offset) i ≡ Some (tomb, Stored at place) → (cell ≡ at) × (offset ≡ place)
 moved_is cell offset None tomb at place e = absurd (none_some e)
 moved_is cell offset (Some i) tomb at place e =
     let both : Stored cell offset ≡ Stored at place = ap (λ (x : Bool × Place). x.1) (some_is e) in
@@ -150,7 +150,7 @@ module _ (p : Parts) (m : State) (slot cell : ℕ) (t : Storage) (image : Shared
       (λ q h f. absurd (true≢false (sym h ∙ f)))
       (λ q h. (used_of t, used_found q h, cell_of q h))
       (λ q f g. d.with_id q ∙ stays_other q (storage_with m q) (λ u x. (of_id m q u x).1) f)
-      (λ q. refl)
+      (λ q f g. refl)
       (omega (arith, d.storages))
 
   keeps : (u : Storage) (k : ℕ) → has_id u.id (cell_at p.cells.cells k) ≡ true → has_id u.id (cell_at cells k) ≡ true
@@ -281,5 +281,5 @@ module _ (p : Parts) (m : State) (slot cell : ℕ) (t : Storage) (image : Shared
       counts = counted;
       limit = r.limit;
       next_id = r.next_id;
-      others = record { shrinks = r.others.shrinks; snap = r.others.snap };
+      no_snap = r.no_snap;
     }

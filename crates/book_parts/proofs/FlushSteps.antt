@@ -79,7 +79,7 @@ none_filtered test (x ∷ xs) e = by (cases_Bool (test x)) (none_filtered test x
     by (inr f) rest = let h : list_any test xs ≡ false = sym (ap (λ b. b || list_any test xs) f) ∙ e in ap (λ b. cond b (x ∷ filter test xs) (filter test xs)) f ∙ rest h
 
 -- a cell that is free is counted
-some_free : (cs : List (Phase Shared)) (i : ℕ) → i < length cs → cell_at cs i ≡ phases.Free → 0 < count_by is_free cs
+pub some_free : (cs : List (Phase Shared)) (i : ℕ) → i < length cs → cell_at cs i ≡ phases.Free → 0 < count_by is_free cs
 some_free [] i within e = let h : i < 0 = within in absurd (omega (arith, h))
 some_free (x ∷ cs) zero within e =
     let first : weight_of_free x ≡ 1 = ap weight_of_free e in

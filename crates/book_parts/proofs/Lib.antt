@@ -10,6 +10,7 @@ mod NewParts
 mod NextKeys
 mod PinsInHand
 mod Repinned
+mod ShrinkSteps
 mod Steps
 mod StoredLoads
 mod Unpins
@@ -25,6 +26,15 @@ pub mod Members
 pub mod OpenFlush
 pub mod Reflected
 pub mod RetiredStorage
+pub mod SameRows
+pub mod CopiedRows
+pub mod PinnedCells
+pub mod BegunShrink
+pub mod UsedStorage
+pub mod OpenCopy
+pub mod InstalledShrink
+pub mod DroppedShrink
+pub mod RecycledCells
 pub mod RowPlaces
 pub mod SlotChanges
 pub mod StoredVersions

@@ -1,10 +1,12 @@
 -- Marks and rows after a pair goes in, or a slot is emptied.
 use Rattle.std.proofs.Common.{AllPairs, ◌<◌, ◌≡◌, ◌≢◌, ℕ, ◌+◌, List, [], Bool, true, false, cond, eqb, not, ◌&&◌, ◌||◌, length, Option, Some, None, is_some, option_map, refl, sym, ap, ◌∙◌, subst, inl, inr, arith, IsFalse}
+use Rattle.std.specs.Option.{option_map_or}
 use Rattle.std.specs.Str.{bytes_eq}
 use Rattle.std.proofs.lemmas.Bool.{cases_Bool, eqb-true, eq-eqb, true≢false}
 use Rattle.adb_model.specs.Lists.{among}
 use Rattle.adb_model.specs.Account.{Account, is_tomb}
 use Rattle.adb_model.specs.State.{Row, State}
+use Rattle.adb_model.specs.State as machine
 use Rattle.adb_model.specs.Presence.{has_store, is_cached, is_named, is_present, ends_in_tomb}
 use Rattle.adb_model.specs.Cache.{put_row}
 use Rattle.adb_model.specs.Flush.{flush_rows}
@@ -19,7 +21,7 @@ use Rattle.write_cache.specs.Rows.{Cache, rows, total, account_at}
 use Rattle.book_parts.specs.Parts.{Parts}
 use Rattle.book_parts.specs.Storages.{IsPlacedAt}
 use Rattle.book_parts.specs.Reflects.{Reflects, indexed, mark_of, unflushed_rows, counts_in}
-use Rattle.book_parts.specs.Changes.{AgreeIn, Enters, Leaves}
+use Rattle.book_parts.specs.Changes.{AgreeIn, CachedIn, SameIndex, SameCache, Enters, Leaves}
 
 abbrev mark : Bool → Bool → Bool → Option (Bool × Bool)
 mark p t c = cond p (Some (t, c)) None
@@ -109,7 +111,7 @@ module _ (p : Parts) (index : Index) (cache : Cache) (m : State) (slot : ℕ) (k
         ∙ ap (with_cached (counts_of after).cached) r.counts;
     limit = r.limit;
     next_id = r.next_id;
-    others = r.others;
+    no_snap = r.no_snap;
   }
     where
       left : (k : List ℕ) (s : ℕ) (t : Bool) (cell offset : ℕ) → indexed index s k ≡ Some (t, Stored cell offset) → here s k ≡ false
@@ -145,7 +147,7 @@ reflects_root p m roots r = record {
   counts = r.counts;
   limit = r.limit;
   next_id = r.next_id;
-  others = r.others;
+  no_snap = r.no_snap;
 }
 
 -- ---- a slot is emptied
@@ -181,7 +183,7 @@ module _ (p : Parts) (index : Index) (cache : Cache) (m : State) (slot keys : �
         counts = ap (λ n. with_cached n (counts_in p)) (fewer_cached keys_is) ∙ ap (with_cached (counts_of emptied).cached) r.counts;
         limit = r.limit;
         next_id = r.next_id;
-        others = r.others;
+        no_snap = r.no_snap;
       }
     where
       fewer_cached : keys ≡ length (keys_of m slot) → total cache ≡ (counts_of emptied).cached
@@ -236,6 +238,54 @@ agree p m slot r unflushed named stored = λ k.
     ∙ ap (λ b. is_cached m slot k || b) (named k) ∙ or_false (is_cached m slot k)
     ∙ ap (λ b. has_store m slot k && not b) unflushed ∙ and_true (has_store m slot k)
     ∙ sym (stored k) ∙ ap (λ rs. is_some (account_at rs k)) (sym (r.rows slot ∙ ap (λ f. cond f [] (flush_rows m slot)) unflushed))
+
+-- what is found of a pair is its mark, where it is cached
+unmarked : (o : Option (Bool × Place)) (l : Option machine.Stored) → option_map mark_of o ≡ mark (is_some l) (option_map_or (λ t. is_tomb t.account) l false) (is_some l)
+    → o ≡ option_map (λ a. (is_tomb a, Cached)) (option_map (λ t. t.account) l)
+unmarked None None e = refl
+unmarked None (Some t) e = absurd cc
+unmarked (Some i) None e = absurd cc
+unmarked (Some (b, Cached)) (Some t) e =
+    let a : Bool × Bool = (b, true) in
+    let z : Bool × Bool = (is_tomb t.account, true) in
+    let same : Some a ≡ Some z = e in
+    let pair : a ≡ z = cc in
+    ap (λ (x : Bool). Some (x, Cached)) (ap (λ (x : Bool × Bool). x.0) pair)
+unmarked (Some (b, Stored cell offset)) (Some t) e =
+    let a : Bool × Bool = (b, false) in
+    let z : Bool × Bool = (is_tomb t.account, true) in
+    let same : Some a ≡ Some z = e in
+    let pair : a ≡ z = cc in
+    absurd (true≢false (sym (ap (λ (x : Bool × Bool). x.1) pair)))
+
+pub cached_in : (p : Parts) (m : State) (slot : ℕ) → Reflects p m → IsFalse (among slot m.flushed) → ((k : List ℕ) → IsFalse (is_named m slot k))
+    → ((k : List ℕ) → has_store m slot k ≡ is_some (last_store m slot k))
+    → ((k : List ℕ) → account_at (flush_rows m slot) k ≡ option_map (λ t. t.account) (last_store m slot k)) → CachedIn slot p.index p.cache
+cached_in p m slot r unflushed named there stored = λ k.
+    let t = ends_in_tomb m slot k in
+    let is_there : is_cached m slot k ≡ is_some (last_store m slot k) = ap (λ b. has_store m slot k && not b) unflushed ∙ and_true (has_store m slot k) ∙ there k in
+    let present : is_present m slot k ≡ is_some (last_store m slot k) = ap (λ b. is_cached m slot k || b) (named k) ∙ or_false (is_cached m slot k) ∙ is_there in
+    unmarked (indexed p.index slot k) (last_store m slot k) (r.marks k slot ∙ mark_same _ _ t t _ _ present refl is_there)
+    ∙ ap (option_map (λ a. (is_tomb a, Cached))) (sym (ap (λ rs. account_at rs k) (r.rows slot ∙ ap (λ f. cond f [] (flush_rows m slot)) unflushed) ∙ stored k))
+
+-- a store that was undone
+pub reflects_undone : (p : Parts) (index : Index) (cache : Cache) (m : State) → SameIndex p.index index → SameCache p.cache cache → Reflects p m → Reflects (record p { index = index; cache = cache }) m
+reflects_undone p index cache m same same_cache r = record {
+  marks = λ k s. ap (option_map mark_of) (same.versions k s) ∙ r.marks k s;
+  placed = λ k s tomb cell offset is. r.placed k s tomb cell offset (sym (same.versions k s) ∙ is);
+  held = λ k s. same.holds.held k s ∙ r.held k s;
+  expected = λ k s. same.holds.expected k s ∙ r.expected k s;
+  rows = λ s. same_cache.rows s ∙ r.rows s;
+  roots = r.roots;
+  cleaned = r.cleaned;
+  leases = r.leases;
+  cells = r.cells;
+  slots = r.slots;
+  counts = ap (λ n. with_cached n (counts_in p)) same_cache.counted ∙ r.counts;
+  limit = r.limit;
+  next_id = r.next_id;
+  no_snap = r.no_snap;
+}
 
 -- a slot's rows are of different keys
 pub rows_differ : (p : Parts) (m : State) (slot : ℕ) → Reflects p m → AllPairs (λ r q. r.key ≢ q.key) (flush_rows m slot) → AllPairs (λ r q. r.key ≢ q.key) (rows p.cache slot)

@@ -26,12 +26,12 @@ use Rattle.book_parts.specs.Reflects.{Reflects, mark_of, indexed}
 use Rattle.book_parts.specs.Flushes.{IsOpenIn}
 use Rattle.book_parts.proofs.Found.{some_is, none_some, found, of_id, one_of_id}
 
-begun_some : (cells : List (Phase Shared)) (begun : Option Begun) (t : Storage) → IsBegunOf cells begun (Some t)
+pub begun_some : (cells : List (Phase Shared)) (begun : Option Begun) (t : Storage) → IsBegunOf cells begun (Some t)
     → (cell : ℕ) × (begun ≡ Some (begun_with cell (length t.rows))) × (has_id t.id (cell_at cells cell) ≡ true)
 begun_some cells None t is = absurd is
 begun_some cells (Some b) t is = (b.cell, ap (λ (n : ℕ). Some (begun_with b.cell n)) is.1, is.0)
 
-not_both : (phase : model.Phase) → is_live_phase phase ≡ true → is_filling_phase phase ≡ true → ⊥
+pub not_both : (phase : model.Phase) → is_live_phase phase ≡ true → is_filling_phase phase ≡ true → ⊥
 not_both model.Filling live fills = true≢false (sym live)
 not_both model.Live live fills = true≢false (sym fills)
 not_both model.Retired live fills = true≢false (sym live)
@@ -43,7 +43,7 @@ not_retired model.Live retired fills = true≢false (sym fills)
 not_retired model.Retired retired fills = true≢false (sym fills)
 
 -- the cell of a storage that is being filled
-filling_form : (t : Storage) (count : ℕ) (phase : Phase Shared) → IsTrue (is_filling t) → has_id t.id phase ≡ true → IsCellOf t count phase → phase ≡ Filling t.id t.bytes
+pub filling_form : (t : Storage) (count : ℕ) (phase : Phase Shared) → IsTrue (is_filling t) → has_id t.id phase ≡ true → IsCellOf t count phase → phase ≡ Filling t.id t.bytes
 filling_form t count Free fills has is = absurd is
 filling_form t count (Filling id bytes) fills has is = ap₂ (λ (i b : ℕ). Filling i b) (eqb-true id t.id has) is.1
 filling_form t count (Live id bytes pins image) fills has is = absurd (not_both t.phase is.0 fills)

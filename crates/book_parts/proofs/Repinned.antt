@@ -182,5 +182,5 @@ module _ (p : Parts) (m : State) (ps : List Pin) (id i : ℕ) (now : Phase Share
     counts = same_counts;
     limit = r.limit;
     next_id = r.next_id;
-    others = r.others;
+    no_snap = r.no_snap;
   }

@@ -5,7 +5,6 @@ use Rattle.std.specs.Option.{option_map_or}
 use Rattle.std.specs.Str.{bytes_eq}
 use Rattle.std.proofs.lemmas.Bool.{eqb-true, eq-eqb, ne_eqb, true≢false}
 use Rattle.std.proofs.lemmas.List.Sums.{sum_by-cons}
-use Rattle.std.proofs.lemmas.Map.Views.{any-filter_same}
 use Rattle.slot_list.specs.declared.Version.{Version}
 use Rattle.slot_list.specs.declared.Place.{Place}
 use Rattle.slot_list.specs.declared.Place.TheVariants.{Stored}
@@ -20,14 +19,13 @@ use Rattle.cell_table.specs.Cells.{cell_at}
 use Rattle.storage_map.specs.declared.entry.Live.{Live}
 use Rattle.storage_map.specs.Slots.{Slots, live_at, begun_at, alive_in, total_in, Becomes}
 use Rattle.adb_model.specs.Lists.{among}
-use Rattle.adb_model.specs.State.{Row, Pair, Retired, Storage, State}
+use Rattle.adb_model.specs.State.{Pair, Retired, Storage, State}
 use Rattle.adb_model.specs.Presence.{has_row, is_pair, is_held, is_named}
 use Rattle.adb_model.specs.Storages.{used, storage_with, live_storage, filling_storage, open_flush, pin_count, in_phase}
 use Rattle.adb_model.specs.Shrink.{named_in}
 use Rattle.adb_model.specs.Cleaning.{with_retired}
 use Rattle.adb_model.specs.Stats.{counts_of}
 use Rattle.adb_model.specs.Call.{Counts}
-use Rattle.adb_model.specs.Laws.{SameRows}
 use Rattle.adb_model.specs.Sound.{IsSoundMidway}
 use Rattle.book_parts.specs.Parts.{Parts, Shared}
 use Rattle.book_parts.specs.Cells.{CellsFit, IsImageOf, IsCellOf}
@@ -38,6 +36,7 @@ use Rattle.book_parts.proofs.Found.{some_is, none_some, of_id}
 use Rattle.book_parts.proofs.CellChanges as changes
 use Rattle.book_parts.proofs.CellOfStorage.{live_with_id, live_cell}
 use Rattle.book_parts.proofs.CellSums.{one_if, in_range, same_look}
+use Rattle.book_parts.proofs.SameRows.{same_keys}
 use Rattle.book_parts.proofs.SlotChanges.{live_kept, begun_kept, same_counts, if_same}
 use Rattle.book_parts.proofs.DroppedVersion.{entry_of}
 use Rattle.book_parts.proofs.StoredVersions.{named_is}
@@ -62,12 +61,7 @@ pub record Retirement (m : State) (slot : ℕ) (t : Storage) : Type 0 where
   pub retired_count : (counts_of (with_retired m t)).retired ≡ (counts_of m).retired + 1
   pub row_count : (counts_of m).rows ≡ (counts_of (with_retired m t)).rows + length t.rows
 
--- ---- rows and names
-
-same_rows : (rows others : List Row) (k : List ℕ) → SameRows rows others → has_row k rows ≡ has_row k others
-same_rows rows others k same =
-    sym (any-filter_same (λ (r : Row). bytes_eq r.key k) (λ r. bytes_eq r.key k) true (λ r t. t) rows) ∙ ap (list_any (λ (r : Row). bytes_eq r.key k)) (same k)
-    ∙ any-filter_same (λ (r : Row). bytes_eq r.key k) (λ r. bytes_eq r.key k) true (λ r t. t) others
+-- ---- names
 
 -- a slot with a named pair counts it
 pub named_counted : (s : ℕ) (k : List ℕ) (ps : List Pair) → list_any (is_pair s k) ps ≡ true → 0 < count_by (λ p. eqb p.slot s) ps
@@ -95,7 +89,7 @@ unheld false row in_image held is same = refl
 
 -- ---- cells
 
-live_form : (t : Storage) (count : ℕ) (phase : Phase Shared) → phases.is_live phase ≡ true → has_id t.id phase ≡ true → IsCellOf t count phase
+pub live_form : (t : Storage) (count : ℕ) (phase : Phase Shared) → phases.is_live phase ≡ true → has_id t.id phase ≡ true → IsCellOf t count phase
     → (image : Shared) × (phase ≡ cells.Live t.id t.bytes count image) × IsImageOf t image.value
 live_form t count cells.Free live has is = absurd is
 live_form t count (cells.Filling id bytes) live has is = absurd (true≢false (sym live))
@@ -187,7 +181,7 @@ module _ (p : Parts) (m : State) (slot cell : ℕ) (t : Storage) (h : IsSoundMid
         (λ q h f. absurd (true≢false (sym h ∙ f)))
         (λ q h. (retired_of t, retired_found q h, (refl, refl, ap (pin_count m) (eqb-true t.id q h), image_of)))
         (λ q f g. d.with_id q ∙ stays_other q (storage_with m q) (λ u x. (of_id m q u x).1) f)
-        (λ q. refl)
+        (λ q f g. refl)
         (omega (arith, d.storages))
 
     keeps : (u : Storage) (k : ℕ) → has_id u.id (cell_at p.cells.cells k) ≡ true → has_id u.id (cell_at after k) ≡ true
@@ -229,7 +223,7 @@ module _ (p : Parts) (m : State) (slot cell : ℕ) (t : Storage) (h : IsSoundMid
         }
 
     held_in_image : (k : List ℕ) → has_row k (rows_in image.value) ≡ has_row k t.rows
-    held_in_image k = same_rows (rows_in image.value) t.rows k of_image.rows
+    held_in_image k = same_keys (rows_in image.value) t.rows k of_image.rows
 
     held : (k : List ℕ) (s : ℕ) → among s (kept index k).held ≡ is_held n s k
     held k s =
@@ -288,5 +282,5 @@ module _ (p : Parts) (m : State) (slot cell : ℕ) (t : Storage) (h : IsSoundMid
       counts = counted;
       limit = r.limit;
       next_id = r.next_id;
-      others = record { shrinks = r.others.shrinks; snap = r.others.snap };
+      no_snap = r.no_snap;
     }

@@ -1,10 +1,7 @@
 -- The places of rows, each key once.
-use Rattle.std.proofs.Common.{◌≡◌, ◌≢◌, ℕ, suc, List, [], ◌∷◌, map, filter, Bool, true, false, cond, ◌||◌, All, AllPairs, Option, Some, is_some, refl, sym, ap, ◌∙◌, subst, arith}
+use Rattle.std.proofs.Common.{◌≡◌, ◌≢◌, ℕ, List, [], ◌∷◌, map, filter, Bool, true, false, cond, ◌||◌, All, AllPairs, Option, Some, is_some, refl, sym, ap, ◌∙◌, subst}
 use Rattle.std.specs.Option.{option_map}
 use Rattle.std.specs.Str.{bytes_eq}
-use Rattle.std.proofs.lemmas.Bool.{false_from_ne_true}
-use Rattle.std.proofs.lemmas.List.Elements.{All-head, All-tail}
-use Rattle.std.proofs.lemmas.Slice.Eq.{bytes_eq-Decides}
 use Rattle.adb_model.specs.Account.{Account}
 use Rattle.adb_model.specs.Lists.{last}
 use Rattle.adb_model.specs.State.{Row}
@@ -12,25 +9,7 @@ use Rattle.adb_model.specs.Presence.{has_row}
 use Rattle.adb_model.specs.Sound.{last_row}
 use Rattle.book_parts.specs.Flushes.{place_of}
 use Rattle.book_parts.proofs.Found.{some_is, none_some}
-
-abbrev Differ : Row → Row → Type 0
-Differ r q = r.key ≢ q.key
-
-pairs_head : (r : Row) (rows : List Row) → AllPairs Differ (r ∷ rows) → All (Differ r) rows
-pairs_head r rows pairs k d lt = pairs 0 (suc k) d (omega arith) (omega (arith, lt))
-
-pairs_tail : (r : Row) (rows : List Row) → AllPairs Differ (r ∷ rows) → AllPairs Differ rows
-pairs_tail r rows pairs i j d lt within = pairs (suc i) (suc j) d (omega (arith, lt)) (omega (arith, within))
-
-key_is : (r : Row) (k : List ℕ) → bytes_eq r.key k ≡ true → r.key ≡ k
-key_is r k e = (bytes_eq-Decides r.key k).0 e
-
--- no row is of a key that all rows' keys differ from
-none_of : (k : List ℕ) (rows : List Row) → All (λ q. k ≢ q.key) rows → filter (λ r. bytes_eq r.key k) rows ≡ []
-none_of k [] all = refl
-none_of k (r ∷ rows) all =
-    ap (λ b. cond b (r ∷ filter (λ q. bytes_eq q.key k) rows) (filter (λ q. bytes_eq q.key k) rows)) (false_from_ne_true (bytes_eq r.key k) (λ t. All-head (λ (q : Row). k ≢ q.key) r rows all (sym (key_is r k t))))
-    ∙ none_of k rows (All-tail (λ (q : Row). k ≢ q.key) r rows all)
+use Rattle.book_parts.proofs.SameRows.{key_is, pairs_head, pairs_tail, none_of}
 
 module _ (there : ℕ → Option Row) (k : List ℕ) where
   some_cons : (r : Row) (rows : List Row) → [] ≡ map Some (r ∷ rows) → ⊥

@@ -74,7 +74,7 @@ tomb_by (Some v) p t c n e f = by (is_stored v.place) f (marked p t c (mark_of (
         and_false true = refl
         and_false false = refl
 
-and_not : (b f : Bool) → f ≡ true → (b && not f) ≡ false
+pub and_not : (b f : Bool) → f ≡ true → (b && not f) ≡ false
 and_not true f e = ap not e
 and_not false f e = refl
 

@@ -1,5 +1,5 @@
 -- What the calls of a book change of its index and its cache.
-use Rattle.std.specs.Prelude.{◌≡◌, ℕ, ◌+◌, ◌==◌, ◌&&◌, if◌then◌else◌, List, [], length, Option, Some, None, is_some, option_and_then, nat_le, slice_set}
+use Rattle.std.specs.Prelude.{◌≡◌, ℕ, ◌+◌, ◌==◌, ◌&&◌, if◌then◌else◌, List, [], length, Option, Some, None, is_some, option_map, option_and_then, nat_le, slice_set}
 use Rattle.std.specs.Str.{bytes_eq}
 use Rattle.slot_list.specs.declared.Place.TheVariants.{Cached}
 use Rattle.accounts_index.specs.Index.{Index, kept}
@@ -18,6 +18,15 @@ rooted_by roots slot = option_and_then (λ newest. if nat_le slot newest then So
 -- a key has a version in the slot exactly where it has a row there
 abbrev pub AgreeIn : ℕ → Index → Cache → Type 0
 AgreeIn slot index cache = (k : List ℕ) → is_some (indexed index slot k) ≡ is_some (account_at (rows cache slot) k)
+
+-- a key has a version in the slot exactly where it has a row there, and it is cached, and a tomb where the row's account is one
+abbrev pub CachedIn : ℕ → Index → Cache → Type 0
+CachedIn slot index cache = (k : List ℕ) → indexed index slot k ≡ option_map (λ a. (is_tomb a, Cached)) (account_at (rows cache slot) k)
+
+-- each slot has the same rows, and there are as many in all
+pub record SameCache (old new : Cache) : Type 0 where
+  pub rows : (s : ℕ) → rows new s ≡ rows old s
+  pub counted : total new ≡ total old
 
 -- each key is held, and expected to be, in the same slots
 pub record SameHolds (old new : Index) : Type 0 where

@@ -6,5 +6,6 @@ pub mod Pins
 pub mod Stands
 pub mod Changes
 pub mod Flushes
+pub mod Shrinks
 pub mod Keys
 pub mod Reclaims

@@ -58,14 +58,7 @@ counts_in p = record {
   pins = pins p.cells.cells;
 }
 
--- only flushes fill storages, and only passes pin them
-abbrev pub OnlyFlushes : State → Type 0
-OnlyFlushes m = record {
-  shrinks : m.shrinks ≡ [];
-  snap : m.snap ≡ None;
-}
-
--- each look into the parts finds what the state says
+-- each look into the parts finds what the state says, in which no snapshot is open
 pub record Reflects (p : Parts) (m : State) : Type 0 where
   pub marks : (k : List ℕ) (s : ℕ) → option_map mark_of (indexed p.index s k) ≡ present_mark m s k
   pub placed : (k : List ℕ) (s : ℕ) (tomb : Bool) (cell offset : ℕ) → indexed p.index s k ≡ Some (tomb, Stored cell offset) → IsPlacedAt m p.cells.cells s k cell offset
@@ -80,4 +73,4 @@ pub record Reflects (p : Parts) (m : State) : Type 0 where
   pub counts : counts_in p ≡ counts_of m
   pub limit : p.cells.limit ≡ m.budget
   pub next_id : p.next_id ≡ m.next_id
-  pub others : OnlyFlushes m
+  pub no_snap : m.snap ≡ None

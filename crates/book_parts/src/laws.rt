@@ -23,7 +23,7 @@ ghost use Rattle.book_parts.specs.Parts.{Parts, Shared, new_parts};
 ghost use Rattle.book_parts.specs.Reflects.{Reflects, counts_in};
 ghost use Rattle.book_parts.specs.Pins.{HoldsPins};
 ghost use Rattle.book_parts.specs.Stands.{Stands, After, AfterWithPins};
-ghost use Rattle.book_parts.specs.Changes.{rooted_by, AgreeIn, SameIndex, Enters, Leaves};
+ghost use Rattle.book_parts.specs.Changes.{rooted_by, AgreeIn, CachedIn, SameIndex, SameCache, Enters, Leaves};
 ghost use Rattle.book_parts.specs.Keys.{IsNextKey};
 
 use adb_model::{
@@ -66,6 +66,7 @@ pub fn new_parts_stand()
 /// A law: how parts stand before and after a store.
 pub fn store_stands()
     ensures agree { (p : Parts) (m0 : State) (h : List machine.Event) (slot : ℕ) → Stands p m0 h → rooted_by p.roots slot ≡ None → AgreeIn slot p.index p.cache }
+    ensures cached { (p : Parts) (m0 : State) (h : List machine.Event) (slot : ℕ) → Stands p m0 h → rooted_by p.roots slot ≡ None → CachedIn slot p.index p.cache }
     ensures refused { (p : Parts) (m0 : State) (h : List machine.Event) (pass slot : ℕ) (key : List ℕ) (account : Account) (newest : ℕ)
         → Stands p m0 h → rooted_by p.roots slot ≡ Some newest
         → After p m0 h pass (machine.Store slot key account) (Some (Refused (machine.SlotRooted slot newest))) }
@@ -74,6 +75,8 @@ pub fn store_stands()
         → After (record p { index = new_index; cache = new_cache }) m0 h pass (machine.Store slot key account) (Some machine.Done) }
     ensures kept { (p : Parts) (new_index : Index) (m0 : State) (h : List machine.Event)
         → Stands p m0 h → SameIndex p.index new_index → Stands (record p { index = new_index }) m0 h }
+    ensures undone { (p : Parts) (new_index : Index) (new_cache : Cache) (m0 : State) (h : List machine.Event)
+        → Stands p m0 h → SameIndex p.index new_index → SameCache p.cache new_cache → Stands (record p { index = new_index; cache = new_cache }) m0 h }
 {
     step_stands();
     only_roots_are_flushed();

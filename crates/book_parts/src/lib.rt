@@ -11,6 +11,8 @@ mod flushing;
 mod laws;
 mod leasing;
 mod pinning;
+mod shrink_events;
+mod shrinking;
 
 pub use cleaning::{
     crowded_keys_reflect, dropped_version_reflects, reclaim_stands, retired_storage_reflects,
@@ -24,3 +26,8 @@ pub use laws::{
 };
 pub use leasing::{lease_stands, raise_stands};
 pub use pinning::{pins_stay, stored_load_stands, unpin_stands};
+pub use shrink_events::{recycle_stands, shrink_begin_stands, shrink_end_stands};
+pub use shrinking::{
+    begun_shrink_reflects, dropped_shrink_reflects, installed_shrink_reflects,
+    open_shrink_reflects, recycled_storages_reflect, used_storage_reflects,
+};
