@@ -19,7 +19,7 @@ use Rattle.book_parts.specs.Parts.{Parts}
 use Rattle.book_parts.specs.Reflects.{Reflects}
 use Rattle.book_parts.specs.Reclaims.{IsMidway, is_stored_at, IsShadow, IsNewestShadow, DropsVersion}
 use Rattle.clean_plan.specs.Leaving.{StandAs, Leave}
-use Rattle.clean_plan.specs.Lists.{IsNextStored}
+use Rattle.clean_plan.specs.Lists.{IsNextStored, IsAloneBelow}
 
 pub bytes_eq-self : (a : List ℕ) → bytes_eq a a ≡ true
 bytes_eq-self a = (bytes_decides a a).1 refl
@@ -136,17 +136,20 @@ module _ (laws : Laws) (p : Parts) (key : List ℕ) (root : ℕ) (index : Index)
 
 -- no stored version stands below the next place to look
 pub before_more : ((slot s : ℕ) (versions : List Version) → at s (without slot versions) ≡ cond (eqb slot s) None (at s versions))
-    → (key : List ℕ) (index new_index : Index) (from root slot : ℕ) → ((s : ℕ) → s < from → is_stored_at (kept index key).versions s ≡ false)
-    → IsNextStored (kept index key).versions from root (Some slot) → DropsVersion slot key index new_index
-    → (s : ℕ) → s < slot + 1 → is_stored_at (kept new_index key).versions s ≡ false
-before_more without_is key index new_index from root slot before next drops s lt = elim (cases_lt s slot) [
+    → (key : List ℕ) (index new_index : Index) (from root slot next : ℕ) → ((s : ℕ) → s < from → is_stored_at (kept index key).versions s ≡ false)
+    → IsNextStored (kept index key).versions from root (Some slot) → IsAloneBelow (kept index key).versions slot next → DropsVersion slot key index new_index
+    → (s : ℕ) → s < next → is_stored_at (kept new_index key).versions s ≡ false
+before_more without_is key index new_index from root slot next before first alone drops s lt = elim (cases_lt s slot) [
   | inl lower ↦ stored_left without_is slot key index new_index drops s (elim (cases_lt s from) [
     | inl lo ↦ before s lo
-    | inr hi ↦ next.3 s hi lower
+    | inr hi ↦ first.3 s hi lower
   ])
-  | inr not_lower ↦
-      let here : s ≡ slot = omega arith in
-      ap (is_stored_at (kept new_index key).versions) here ∙ stored_gone without_is slot key index new_index drops
+  | inr not_lower ↦ elim (cases_lt slot s) [
+    | inl upper ↦ stored_left without_is slot key index new_index drops s (alone.none s upper lt)
+    | inr not_upper ↦
+        let here : s ≡ slot = omega arith in
+        ap (is_stored_at (kept new_index key).versions) here ∙ stored_gone without_is slot key index new_index drops
+  ]
 ]
 
 -- a stored version is there

@@ -9,6 +9,11 @@ IsNextStored versions from bound None = (s : ℕ) → from ≤ s → s < bound �
 IsNextStored versions from bound (Some slot) =
     (from ≤ slot) × (slot < bound) × (is_stored_at versions slot ≡ true) × ((s : ℕ) → from ≤ s → s < slot → is_stored_at versions s ≡ false)
 
+-- no version is stored above the slot and below the other one, which is higher
+pub record IsAloneBelow (versions : List Version) (slot next : ℕ) : Type 0 where
+  pub higher : slot < next
+  pub none : (s : ℕ) → slot < s → s < next → is_stored_at versions s ≡ false
+
 -- the slot whose version is a stored tomb that hides nothing below, where there is one
 abbrev pub TellsLowestTomb : ℕ → List Version → List ℕ → Option ℕ → Type 0
 TellsLowestTomb cleaned versions held None = (s : ℕ) → IsLowestTomb cleaned versions held s → ⊥

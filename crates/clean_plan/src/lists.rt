@@ -1,11 +1,11 @@
 // What a reclaim looks up in the list of a key.
-ghost use Rattle.std.specs.Prelude.{◌≡◌, ◌<◌, ◌≤◌, ◌&&◌, nat_le, length};
+ghost use Rattle.std.specs.Prelude.{◌≡◌, ℕ, ◌<◌, ◌≤◌, ◌&&◌, false, nat_le, length, option_map, IfSome};
 ghost use Rattle.std.specs.List.{AllWithin};
 ghost use Rattle.std.specs.List.Sorted.{IsStrictlyIncreasing};
 ghost use Rattle.slot_list.specs.Versions.{VersionsRise};
 ghost use Rattle.accounts_index.specs.Index.{kept, is_stored};
-ghost use Rattle.book_parts.specs.Reclaims.{IsNewestShadow};
-ghost use Rattle.clean_plan.specs.Lists.{IsNextStored, TellsLowestTomb};
+ghost use Rattle.book_parts.specs.Reclaims.{is_stored_at, IsNewestShadow};
+ghost use Rattle.clean_plan.specs.Lists.{IsNextStored, IsAloneBelow, TellsLowestTomb};
 
 use accounts_index::AccountsIndex;
 use adb_model::{Key, Slot};
@@ -26,12 +26,21 @@ pub fn newest_shadow(
     Some(newest.slot)
 }
 
-/// The least slot from one on, below a bound, in which the key has a stored version.
-pub fn next_stored(key: &Key, from: Slot, bound: Slot, index: &AccountsIndex) -> Option<Slot>
-    ensures { IsNextStored (kept index.now key.now.0).versions from bound result }
+/// The least slot from one on, below a bound, in which the key has a stored version, and the one from which to look
+/// for the next, which is the bound where there is none.
+pub fn next_stored(
+    key: &Key,
+    from: Slot,
+    bound: Slot,
+    index: &AccountsIndex,
+) -> Option<(Slot, Slot)>
+    ensures first { IsNextStored (kept index.now key.now.0).versions from bound (option_map (λ r. r.0) result) }
+    ensures alone { IfSome result (λ r. IsAloneBelow (kept index.now key.now.0).versions r.0 r.1) }
 {
     let list = index.list(key)?;
-    stored_from(list.versions(), from, bound)
+    let slot = stored_from(list.versions(), from, bound)?;
+    let next = stored_or_bound(list.versions(), slot + 1, bound);
+    Some((slot, next))
 }
 
 /// The slot of the key's lowest version, where it is a stored tomb up to the cleaned slot, and the key is held in
@@ -58,6 +67,19 @@ fn stored_from(versions: &[Version], from: Slot, bound: Slot) -> Option<Slot>
         }
     }
     None
+}
+
+// The slot that `stored_from` gives, or the bound.
+fn stored_or_bound(versions: &[Version], from: Slot, bound: Slot) -> Slot
+    requires rise { VersionsRise versions.now }
+    requires within { from ≤ bound }
+    ensures higher { from ≤ result }
+    ensures none { (s : ℕ) → from ≤ s → s < result → is_stored_at versions.now s ≡ false }
+{
+    match stored_from(versions, from, bound) {
+        Some(slot) => slot,
+        None => bound,
+    }
 }
 
 // The place of the first version that isn't below a slot.

@@ -67,8 +67,11 @@ fn drop_below(key: &Key, root: Slot, index: &mut AccountsIndex, map: &mut Storag
     names_leave();
     lookups_follow_edits();
     let mut from = 0;
-    while let Some(slot) = next_stored(key, from, root, index) {
+    while from < root {
+        let Some((slot, next)) = next_stored(key, from, root, index) else {
+            return;
+        };
         drop_pair(key, slot, index, map);
-        from = slot + 1;
+        from = next;
     }
 }

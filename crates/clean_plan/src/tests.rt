@@ -40,14 +40,15 @@ fn the_newest_root_up_to_the_cleaned_slot_shadows(rt: HostRuntime) -> Result<(),
         let found = newest_shadow(&KEY, cleaned, &roots, &index);
         assert_eq!(rt; found, shadow, "cleaned {cleaned}");
     }
-    for (from, bound, slot) in [
+    for (from, bound, stored) in [
         (0, 3, None),
-        (0, 4, Some(3)),
+        (0, 4, Some((3, 4))),
+        (0, 10, Some((3, 9))),
         (4, 9, None),
-        (4, 10, Some(9)),
+        (4, 10, Some((9, 10))),
     ] {
         let found = next_stored(&KEY, from, bound, &index);
-        assert_eq!(rt; found, slot, "from {from} to {bound}");
+        assert_eq!(rt; found, stored, "from {from} to {bound}");
     }
     assert_eq!(rt; newest_shadow(&Key([2; 32]), 9, &roots, &index), None);
     Ok(())

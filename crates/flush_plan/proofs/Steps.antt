@@ -95,50 +95,52 @@ module _ (slot cell : ℕ) (xs : List Given) (i : ℕ) (x : Given) (lt : i < len
       (subst (λ (f : Option (Bool × Place)). IsSome f) (sym (so_far.versions x.0.0 slot))
       (some_moved cell (cond (eqb slot slot) (place_of (rows_of (take i xs)) places x.0.0) None) (indexed old slot x.0.0) (ready.there x.0.0 (key_there xs i x lt is))))
 
-  module _ (mid : Index) (p : ℕ) (home : IsWith now mid x.0.0 (record (kept now x.0.0) { versions = rehomed slot (Stored cell p) (kept now x.0.0).versions })) where
-    pub is_expected : among slot (kept mid x.0.0).expected ≡ true
-    is_expected =
-        stays now mid x.0.0 _ (λ q. among slot q.expected) home refl x.0.0 ∙ so_far.expected x.0.0 slot
-        ∙ ap (λ h. not (eqb slot slot && h) && among slot (kept old x.0.0).expected) key_is_new ∙ left (eqb slot slot) (among slot (kept old x.0.0).expected)
-        ∙ ready.expected x.0.0 (key_there xs i x lt is)
-      where
-        left : (c e : Bool) → (not (c && false) && e) ≡ e
-        left true e = refl
-        left false e = refl
+  pub is_expected : among slot (kept now x.0.0).expected ≡ true
+  is_expected =
+      so_far.expected x.0.0 slot
+      ∙ ap (λ h. not (eqb slot slot && h) && among slot (kept old x.0.0).expected) key_is_new ∙ left (eqb slot slot) (among slot (kept old x.0.0).expected)
+      ∙ ready.expected x.0.0 (key_there xs i x lt is)
+    where
+      left : (c e : Bool) → (not (c && false) && e) ≡ e
+      left true e = refl
+      left false e = refl
 
-    pub is_unheld : among slot (kept mid x.0.0).held ≡ false
-    is_unheld =
-        stays now mid x.0.0 _ (λ q. among slot q.held) home refl x.0.0 ∙ so_far.held x.0.0 slot
-        ∙ ap (λ h. (eqb slot slot && h) || among slot (kept old x.0.0).held) key_is_new ∙ left (eqb slot slot) (among slot (kept old x.0.0).held)
-        ∙ ready.unheld x.0.0 (key_there xs i x lt is)
-      where
-        left : (c e : Bool) → ((c && false) || e) ≡ e
-        left true e = refl
-        left false e = refl
+  pub is_unheld : among slot (kept now x.0.0).held ≡ false
+  is_unheld =
+      so_far.held x.0.0 slot
+      ∙ ap (λ h. (eqb slot slot && h) || among slot (kept old x.0.0).held) key_is_new ∙ left (eqb slot slot) (among slot (kept old x.0.0).held)
+      ∙ ready.unheld x.0.0 (key_there xs i x lt is)
+    where
+      left : (c e : Bool) → ((c && false) || e) ≡ e
+      left true e = refl
+      left false e = refl
 
-    pub moves_more : (new : Index) → IsWith mid new x.0.0 (record (kept mid x.0.0) { held = with_slot slot (kept mid x.0.0).held; expected = without_slot slot (kept mid x.0.0).expected })
-        → length places ≡ i → Moves slot cell (rows_of (take (i + 1) xs)) (places ++ (p ∷ [])) old new
-    moves_more new hold each = record {
+  module _ (new : Index) (p : ℕ) (settled : IsWith now new x.0.0 (record {
+    versions = rehomed slot (Stored cell p) (kept now x.0.0).versions;
+    held = with_slot slot (kept now x.0.0).held;
+    expected = without_slot slot (kept now x.0.0).expected;
+  })) where
+    pub moves_more : length places ≡ i → Moves slot cell (rows_of (take (i + 1) xs)) (places ++ (p ∷ [])) old new
+    moves_more each = record {
       versions = λ k s.
           let o = place_of rows places k in
           let h = has_row k rows in
           let b = bytes_eq x.0.0 k in
           let v = indexed old s k in
-          stays mid new x.0.0 _ (λ q. option_map found_of (at s q.versions)) hold refl k
-          ∙ turns now mid x.0.0 _ (λ q. option_map found_of (at s q.versions)) (λ f. cond (eqb slot s) (option_map (at_place (Stored cell p)) f) f) home
+          turns now new x.0.0 _ (λ q. option_map found_of (at s q.versions)) (λ f. cond (eqb slot s) (option_map (at_place (Stored cell p)) f) f) settled
           (found_rehomed slot s (Stored cell p) (kept now x.0.0).versions) k
           ∙ ap (λ (f : Option (Bool × Place)). cond b (cond (eqb slot s) (option_map (at_place (Stored cell p)) f) f) f) (so_far.versions k s)
           ∙ moves cell p (eqb slot s) h b o v (place_none rows places k) (λ t. ap (λ (q : List ℕ). has_row q rows) (sym (same_bytes x.0.0 k t)) ∙ key_is_new)
           ∙ ap (λ (q : Option ℕ). moved cell (cond (eqb slot s) q None) v)
           (sym (ap (λ (rs : List Row). place_of rs (places ++ (p ∷ [])) k) (one_more xs i x lt is) ∙ place_more rows places (row_of x) p k (each ∙ sym (length-first xs i lt))));
       held = λ k s.
-          turns mid new x.0.0 _ (λ q. among s q.held) (λ e. eqb slot s || e) hold (among_with slot s (kept mid x.0.0).held) k
-          ∙ ap (λ e. cond (bytes_eq x.0.0 k) (eqb slot s || e) e) (stays now mid x.0.0 _ (λ q. among s q.held) home refl k ∙ so_far.held k s)
+          turns now new x.0.0 _ (λ q. among s q.held) (λ e. eqb slot s || e) settled (among_with slot s (kept now x.0.0).held) k
+          ∙ ap (λ e. cond (bytes_eq x.0.0 k) (eqb slot s || e) e) (so_far.held k s)
           ∙ joins (eqb slot s) (has_row k rows) (bytes_eq x.0.0 k) (among s (kept old k).held)
           ∙ ap (λ h. (eqb slot s && h) || among s (kept old k).held) (sym (more slot xs i x lt is old now new k));
       expected = λ k s.
-          turns mid new x.0.0 _ (λ q. among s q.expected) (λ e. not (eqb slot s) && e) hold (among_without slot s (kept mid x.0.0).expected) k
-          ∙ ap (λ e. cond (bytes_eq x.0.0 k) (not (eqb slot s) && e) e) (stays now mid x.0.0 _ (λ q. among s q.expected) home refl k ∙ so_far.expected k s)
+          turns now new x.0.0 _ (λ q. among s q.expected) (λ e. not (eqb slot s) && e) settled (among_without slot s (kept now x.0.0).expected) k
+          ∙ ap (λ e. cond (bytes_eq x.0.0 k) (not (eqb slot s) && e) e) (so_far.expected k s)
           ∙ parts (eqb slot s) (has_row k rows) (bytes_eq x.0.0 k) (among s (kept old k).expected)
           ∙ ap (λ h. not (eqb slot s && h) && among s (kept old k).expected) (sym (more slot xs i x lt is old now new k));
     }

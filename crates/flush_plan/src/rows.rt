@@ -96,7 +96,6 @@ pub fn rehome_rows(
             cell,
             offset: *offset,
         };
-        index.rehome(key, slot, place);
-        index.hold(key, slot);
+        index.settle(key, slot, place);
     }
 }

@@ -7,12 +7,12 @@ use Rattle.clean_plan.specs.Leaving.{StandAs}
 use Rattle.clean_plan.proofs.Dropping.{Going}
 use Rattle.clean_plan.proofs.shadowed.drop_below.Given as goal
 
-abbrev pub invariant-loop-slot : goal.invariant-loop-slot
-invariant-loop-slot l = record {
+abbrev pub invariant-loop-from : goal.invariant-loop-from
+invariant-loop-from l = record {
   going : (p : Parts) (m : State) → StandAs p l.fn.index l.fn.map m → IsNewestShadow p.roots p.cleaned (kept l.fn.index l.key.0).versions (Some l.root)
       → (n : State) × Going p l.key.0 l.root l.index l.map m n;
   before : (s : ℕ) → s < l.from → is_stored_at (kept l.index l.key.0).versions s ≡ false;
 }
 
-abbrev pub decreases-loop-slot : goal.decreases-loop-slot
-decreases-loop-slot l = l.root - l.from
+abbrev pub decreases-loop-from : goal.decreases-loop-from
+decreases-loop-from l = l.root - l.from

@@ -7,25 +7,23 @@ use Rattle.flush_plan.proofs.Keys.{place_next}
 use Rattle.flush_plan.proofs.Steps.{version_there, is_expected, is_unheld, moves_more}
 use Rattle.flush_plan.proofs.rows.rehome_rows.Goals as goal
 
-pub rehome-requires : goal.rehome-requires
-rehome-requires c =
+pub settle-requires-clause-there : goal.settle-requires-clause-there
+settle-requires-clause-there c =
     let turn = zip_turn c.args.accounts.now c.args.places.now c.loop-key.yielded c.into_iter-key-iterator.result c.loop-key.key-iterator c.next.new.self c.next.result (search rules) (search rules) c.loop-key.yielded_by (c.in-Some.field-0-0, c.in-Some.offset) c.in-Some.is c.next.ensures.steps in
     version_there c.args.slot c.args.cell c.args.accounts.now (length c.loop-key.yielded) c.in-Some.field-0-0.now turn.0 (turn.2 c.in-Some.field-0-0.now)
     (take (length c.loop-key.yielded) c.args.places.now) c.args.index.now c.loop-key.index c.requires.ready c.loop-key.invariant.2
 
-pub hold-requires-clause-expected : goal.hold-requires-clause-expected
-hold-requires-clause-expected c =
+pub settle-requires-clause-expected : goal.settle-requires-clause-expected
+settle-requires-clause-expected c =
     let turn = zip_turn c.args.accounts.now c.args.places.now c.loop-key.yielded c.into_iter-key-iterator.result c.loop-key.key-iterator c.next.new.self c.next.result (search rules) (search rules) c.loop-key.yielded_by (c.in-Some.field-0-0, c.in-Some.offset) c.in-Some.is c.next.ensures.steps in
     is_expected c.args.slot c.args.cell c.args.accounts.now (length c.loop-key.yielded) c.in-Some.field-0-0.now turn.0 (turn.2 c.in-Some.field-0-0.now)
     (take (length c.loop-key.yielded) c.args.places.now) c.args.index.now c.loop-key.index c.requires.ready c.loop-key.invariant.2
-    c.rehome.new.self c.in-Some.offset.now c.rehome.ensures
 
-pub hold-requires-clause-absent : goal.hold-requires-clause-absent
-hold-requires-clause-absent c =
+pub settle-requires-clause-absent : goal.settle-requires-clause-absent
+settle-requires-clause-absent c =
     let turn = zip_turn c.args.accounts.now c.args.places.now c.loop-key.yielded c.into_iter-key-iterator.result c.loop-key.key-iterator c.next.new.self c.next.result (search rules) (search rules) c.loop-key.yielded_by (c.in-Some.field-0-0, c.in-Some.offset) c.in-Some.is c.next.ensures.steps in
     is_unheld c.args.slot c.args.cell c.args.accounts.now (length c.loop-key.yielded) c.in-Some.field-0-0.now turn.0 (turn.2 c.in-Some.field-0-0.now)
     (take (length c.loop-key.yielded) c.args.places.now) c.args.index.now c.loop-key.index c.requires.ready c.loop-key.invariant.2
-    c.rehome.new.self c.in-Some.offset.now c.rehome.ensures
 
 pub loop-key-preserved : goal.loop-key-preserved
 loop-key-preserved c =
@@ -37,9 +35,9 @@ loop-key-preserved c =
     let longer = place_next ps n c.in-Some.offset.now turn.1 (turn.3 c.in-Some.offset.now) in
     let more = moves_more c.args.slot c.args.cell c.args.accounts.now n c.in-Some.field-0-0.now turn.0 (turn.2 c.in-Some.field-0-0.now)
     (take n ps) c.args.index.now c.loop-key.index c.requires.ready c.loop-key.invariant.2
-    c.rehome.new.self c.in-Some.offset.now c.rehome.ensures c.hold.new.self c.hold.ensures each in (
+    c.settle.new.self c.in-Some.offset.now c.settle.ensures each in (
       (tt, tt),
       tt,
-      subst (λ (m : ℕ). Moves c.args.slot c.args.cell (rows_of (take m c.args.accounts.now)) (take m ps) c.args.index.now c.hold.new.self) (sym next)
-          (subst (λ (qs : List ℕ). Moves c.args.slot c.args.cell (rows_of (take (n + 1) c.args.accounts.now)) qs c.args.index.now c.hold.new.self) (sym longer) more),
+      subst (λ (m : ℕ). Moves c.args.slot c.args.cell (rows_of (take m c.args.accounts.now)) (take m ps) c.args.index.now c.settle.new.self) (sym next)
+          (subst (λ (qs : List ℕ). Moves c.args.slot c.args.cell (rows_of (take (n + 1) c.args.accounts.now)) qs c.args.index.now c.settle.new.self) (sym longer) more),
     )
