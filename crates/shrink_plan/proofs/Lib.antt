@@ -1,0 +1,10 @@
+mod Facts
+mod Passing
+mod Standing
+mod RowsSorted
+mod Edits
+mod Moves
+mod Cells
+mod Begun
+mod Installed
+mod Opened
