@@ -1,3 +1,4 @@
+mod Entering
 mod Images
 mod Leases
 mod Pins
@@ -5,3 +6,5 @@ mod Rows
 mod Slots
 mod Versions
 mod FlushRefusals
+mod ShrinkRefusals
+mod DeadRows

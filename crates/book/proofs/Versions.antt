@@ -2,19 +2,16 @@
 use Rattle.std.proofs.Common.{rules, ◌≡◌, ℕ, List, Bool, true, false, cond, eqb, ◌&&◌, Option, Some, None, is_some, option_map, refl, sym, ap, ◌∙◌, inl, inr, ◌⊎◌, IsSome}
 use Rattle.std.specs.Str.{bytes_eq}
 use Rattle.std.specs.Cmp.Lexicographic.{bytes_decides}
-use Rattle.std.proofs.lemmas.Bool.{cases_Bool, true≢false, and_parts, eqb-true}
+use Rattle.std.proofs.lemmas.Bool.{cases_Bool, true≢false}
 use Rattle.slot_list.specs.declared.Version.{Version}
 use Rattle.slot_list.specs.declared.Place.{Place}
-use Rattle.slot_list.specs.Versions.{at, put, without}
+use Rattle.slot_list.specs.Versions.{at, without}
 use Rattle.accounts_index.specs.Index.{Kept, Index, kept, IsWith}
 use Rattle.adb_model.specs.Lists.{among}
 use Rattle.book_parts.specs.Reflects.{found_of, indexed}
 use Rattle.book_parts.specs.Changes.{SameHolds}
 
--- look-ups after a version goes in, and after one is taken out
-abbrev pub FindsPut : Type 0
-FindsPut = (v : Version) (vs : List Version) (s : ℕ) → at s (put v vs) ≡ cond (eqb v.slot s) (Some v) (at s vs)
-
+-- look-ups after a version is taken out
 abbrev pub FindsNone : Type 0
 FindsNone = (slot s : ℕ) (vs : List Version) → at s (without slot vs) ≡ cond (eqb slot s) None (at s vs)
 
@@ -64,10 +61,6 @@ module _ (old new : Index) (key : List ℕ) (vs : List Version) where
       by (inl t) = rw t (ap (option_map found_of) (found s) ∙ mapped_cond (b s) o (at s (kept old key).versions) ∙ ap (λ (q : List ℕ). cond (b s) (option_map found_of o) (indexed old s q)) (same_bytes key k t))
       by (inr f) = rw f refl
 
-pub entries_put : FindsPut → (old new : Index) (key : List ℕ) (v : Version) → IsWith old new key (record (kept old key) { versions = put v (kept old key).versions })
-    → (k : List ℕ) (s : ℕ) → indexed new s k ≡ cond (eqb v.slot s && bytes_eq key k) (Some (found_of v)) (indexed old s k)
-entries_put finds old new key v is = entries_with old new key (put v (kept old key).versions) is (λ s. eqb v.slot s) (Some v) (finds v (kept old key).versions)
-
 pub entries_without : FindsNone → (old new : Index) (key : List ℕ) (slot : ℕ) → IsWith old new key (record (kept old key) { versions = without slot (kept old key).versions })
     → (k : List ℕ) (s : ℕ) → indexed new s k ≡ cond (eqb slot s && bytes_eq key k) None (indexed old s k)
 entries_without finds old new key slot is = entries_with old new key (without slot (kept old key).versions) is (λ s. eqb slot s) None (λ s. finds slot s (kept old key).versions)
@@ -86,21 +79,6 @@ no_entry (Some x) e = absurd (true≢false e)
 
 pub no_entry_there : (index : Index) (s : ℕ) (k : List ℕ) → is_some (indexed index s k) ≡ false → indexed index s k ≡ None
 no_entry_there index s k e = no_entry (indexed index s k) e
-
-cond_again : (b : Bool) (x y : Option Entry) → (b ≡ true → y ≡ None) → cond b None (cond b x y) ≡ y
-cond_again true x y none = sym (none refl)
-cond_again false x y none = refl
-
--- a pair that had no version goes in and leaves again
-pub entries_back : (old mid new : Index) (key : List ℕ) (slot : ℕ) (x : Option Entry) → indexed old slot key ≡ None
-    → ((k : List ℕ) (s : ℕ) → indexed mid s k ≡ cond (eqb slot s && bytes_eq key k) x (indexed old s k))
-    → ((k : List ℕ) (s : ℕ) → indexed new s k ≡ cond (eqb slot s && bytes_eq key k) None (indexed mid s k))
-    → (k : List ℕ) (s : ℕ) → indexed new s k ≡ indexed old s k
-entries_back old mid new key slot x none put taken k s =
-    taken k s ∙ ap (cond (eqb slot s && bytes_eq key k) None) (put k s)
-    ∙ cond_again (eqb slot s && bytes_eq key k) x (indexed old s k) (λ t.
-    let both = and_parts (eqb slot s) (bytes_eq key k) t in
-    ap (λ (n : ℕ). indexed old n k) (sym (eqb-true slot s both.0)) ∙ ap (indexed old slot) (sym (same_bytes key k both.1)) ∙ none)
 
 pub holds_again : (old mid new : Index) → SameHolds old mid → SameHolds mid new → SameHolds old new
 holds_again old mid new first second = record {

@@ -3,3 +3,4 @@ pub mod Pinned
 pub mod Replies
 pub mod Flushing
 pub mod Leasing
+pub mod Shrinking

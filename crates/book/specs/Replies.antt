@@ -3,8 +3,9 @@ use Rattle.std.specs.Prelude.{ℕ, List, Option, Some, None, option_map, Result,
 use Rattle.std.specs.Option.{option_map_or}
 use Rattle.vec_scan.specs.Seal.{row_there}
 use Rattle.adb_model.specs.Call as machine
-use Rattle.adb_model.specs.Call.{Reply, Done, Refused, Purged, NotFound, Raised, Reclaimed, NothingLeft}
+use Rattle.adb_model.specs.Call.{Reply, Done, Refused, Purged, NotFound, Raised, Reclaimed, NothingLeft, ShrinkBegun, Superseded}
 use Rattle.flush_plan.specs.Jobs.{Job}
+use Rattle.book_parts.specs.Shrinks.{Copy}
 use Rattle.book.specs.declared.refusals.FlushRefusal.{FlushRefusal}
 use Rattle.book.specs.declared.refusals.FlushRefusal.TheVariants as flushes
 use Rattle.book.specs.declared.refusals.StoreRefusal.{StoreRefusal}
@@ -20,6 +21,10 @@ use Rattle.book.specs.declared.refusals.LeaseRefusal.TheVariants as leases
 use Rattle.book.specs.declared.refusals.NotLeased.{NotLeased}
 use Rattle.book.specs.declared.refusals.RaiseRefusal.{RaiseRefusal}
 use Rattle.book.specs.declared.refusals.RaiseRefusal.TheVariants as raises
+use Rattle.book.specs.declared.refusals.ShrinkRefusal.{ShrinkRefusal}
+use Rattle.book.specs.declared.refusals.ShrinkRefusal.TheVariants as shrinks
+use Rattle.book.specs.declared.refusals.ShrinkDone.{ShrinkDone}
+use Rattle.book.specs.declared.refusals.ShrinkDone.TheVariants as ends
 use Rattle.book.specs.declared.loading.Found.{Found}
 use Rattle.book.specs.declared.loading.FoundAt.{FoundAt}
 use Rattle.book.specs.declared.loading.FoundAt.TheVariants.{Cached, Stored}
@@ -90,3 +95,19 @@ flush_reply (Err (flushes.Full used wanted limit)) = Some (Refused (machine.Full
 flush_reply (Err (flushes.NoCell limit)) = Some (Refused (machine.NoCell limit))
 flush_reply (Err flushes.IdsSpent) = Some (Refused machine.IdsSpent)
 flush_reply (Err flushes.NoMemory) = None
+
+-- to a shrink that was to begin
+abbrev pub shrink_reply : Result Copy ShrinkRefusal → Option Reply
+shrink_reply (Ok copy) = Some (ShrinkBegun copy.old copy.id copy.bytes)
+shrink_reply (Err (shrinks.NoStorage slot)) = Some (Refused (machine.NoStorage slot))
+shrink_reply (Err (shrinks.Shrinking slot id)) = Some (Refused (machine.Shrinking slot id))
+shrink_reply (Err (shrinks.NothingDead slot)) = Some (Refused (machine.NothingDead slot))
+shrink_reply (Err (shrinks.Full used wanted limit)) = Some (Refused (machine.Full used wanted limit))
+shrink_reply (Err (shrinks.NoCell limit)) = Some (Refused (machine.NoCell limit))
+shrink_reply (Err shrinks.IdsSpent) = Some (Refused machine.IdsSpent)
+shrink_reply (Err shrinks.NoMemory) = None
+
+-- to a shrink that ended
+abbrev pub shrink_end_reply : ShrinkDone → Reply
+shrink_end_reply ends.Installed = Done
+shrink_end_reply (ends.Superseded slot old) = Superseded slot old

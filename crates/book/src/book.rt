@@ -9,8 +9,9 @@ ghost use Rattle.flush_plan.specs.Jobs.{IsOpenJob};
 ghost use Rattle.book_parts.specs.Stands.{Stands, After, with_event, AfterWithPins, HasHistory, HasHistoryWithPins};
 ghost use Rattle.book_parts.specs.Pins.{HoldsPins};
 ghost use Rattle.book_parts.specs.Keys.{IsNextKey};
+ghost use Rattle.book_parts.specs.Shrinks.{IsOpenCopy};
 ghost use Rattle.pass_pins.specs.Pins.{without_one};
-ghost use Rattle.book.specs.Replies.{store_reply, root_reply, purge_reply, load_reply, unpin_reply, lease_reply, end_lease_reply, raise_reply, reclaim_reply, flush_reply};
+ghost use Rattle.book.specs.Replies.{store_reply, root_reply, purge_reply, load_reply, unpin_reply, lease_reply, end_lease_reply, raise_reply, reclaim_reply, flush_reply, shrink_reply, shrink_end_reply};
 ghost use Rattle.book.specs.Pinned.{IsThere, pins_after};
 
 use crate::flushing::{spent, why_not};
@@ -20,21 +21,24 @@ use crate::pinning::{Cells, Held, pin};
 use crate::purging::leave;
 use crate::refusals::{
     FlushRefusal, LeaseRefusal, LoadRefusal, NotLeased, NotPinned, RaiseRefusal, RootRefusal,
-    Rooted, StoreRefusal,
+    Rooted, ShrinkDone, ShrinkRefusal, StoreRefusal,
 };
 use crate::rooting::rooted_by;
+use crate::shrinking::{no_id_for, why_not_shrunk};
 use crate::storing::enter;
 use accounts_index::AccountsIndex;
 use adb_model::{Account, Key, Slot, Stats, View};
 use append_vec::{Filled, filled_rows_are_the_same};
 use book_parts::{
     flush_begin_stands, flush_end_stands, lease_stands, load_stands, new_parts_stand,
-    next_key_stands, purge_stands, raise_stands, reclaim_stands, root_stands, stats_stand,
-    store_stands, stored_load_stands, sums_fit, unpin_stands,
+    next_key_stands, purge_stands, raise_stands, reclaim_stands, recycle_stands, root_stands,
+    shrink_begin_stands, shrink_end_stands, stats_stand, store_stands, stored_load_stands,
+    sums_fit, unpin_stands,
 };
 use cell_table::CellTable;
 use flush_plan::FlushJob;
 use pass_pins::{MAX_PINS, PassPins};
+use shrink_plan::ShrinkJob;
 use slot_list::Place;
 use std::alloc::{AllocError, Global};
 use std::marker::Model;
@@ -375,6 +379,88 @@ impl Book {
     {
         flush_end_stands();
         flush_plan::abort(job, &mut self.index, &mut self.cells, &mut self.map);
+    }
+
+    /// Begins to copy the rows of a slot's storage that loads may find to a new storage, which the job is to be filled
+    /// with. The old storage is pinned until the shrink ends. It takes all the room that the shrink's end needs.
+    ///
+    /// # Errors
+    /// `NoStorage` exactly where no storage of the slot is in use; else `Shrinking` exactly where a shrink of it is
+    /// open; else `NothingDead` exactly where loads may find each of its rows; else `Full` exactly where the bytes of
+    /// the copy and those of all storages are above the budget; else `NoCell` exactly where there are 1,048,576
+    /// storages; else `IdsSpent` exactly where the next id would be 2^64 - 1.
+    pub fn shrink_begin(&mut self, slot: Slot) -> Result<ShrinkJob, ShrinkRefusal>
+        ensures stands { (m0 : State) (h : List machine.Event) (pass : ℕ) → Stands self.old m0 h
+            → After self.new m0 h pass (machine.ShrinkBegin slot) (shrink_reply result) }
+        ensures opens { (m0 : State) (h : List machine.Event) (pass : ℕ) → Stands self.old m0 h
+            → IfOk result (λ job. IsOpenCopy job (state_after m0 (with_event h pass (machine.ShrinkBegin slot) (shrink_reply result)))) }
+        ensures slot { IfOk result (λ job. job.slot ≡ slot) }
+    {
+        shrink_begin_stands();
+        if let Some(refusal) = why_not_shrunk(&self.cells, &self.map, slot) {
+            return Err(refusal);
+        }
+        let id = self.next_id;
+        if id == u64::MAX {
+            return Err(no_id_for(slot, &self.index, &self.cells, &self.map));
+        }
+        let job = shrink_plan::begin(
+            self.alloc,
+            slot,
+            id,
+            &self.index,
+            &mut self.cells,
+            &mut self.map,
+        )?;
+        self.next_id = id + 1;
+        Ok(job)
+    }
+
+    /// Ends a shrink: where the old storage is in use still, the copy takes its place, and the old one retires; else
+    /// the copy goes. It takes no memory.
+    pub fn shrink_end(&mut self, job: ShrinkJob, filled: Filled) -> ShrinkDone
+        requires open { (m0 : State) × (h : List machine.Event) × Stands self.old m0 h × IsOpenCopy job (state_after m0 h) }
+        requires filled { Fills job.slot job.id job.rows filled.sealed.value filled.places.items }
+        ensures { (m0 : State) (h : List machine.Event) (pass : ℕ) → Stands self.old m0 h → IsOpenCopy job (state_after m0 h)
+            → After self.new m0 h pass (machine.ShrinkEnd job.slot) (Some (shrink_end_reply result)) }
+    {
+        shrink_end_stands();
+        filled_rows_are_the_same();
+        let slot = job.slot();
+        let old = job.old();
+        let is_installed = shrink_plan::end(
+            job,
+            filled.sealed,
+            &filled.places,
+            &mut self.index,
+            &mut self.cells,
+            &mut self.map,
+        );
+        if is_installed {
+            ShrinkDone::Installed
+        } else {
+            ShrinkDone::Superseded { slot, old }
+        }
+    }
+
+    /// Gives a shrink up: its copy leaves. It takes no memory.
+    pub fn shrink_abort(&mut self, job: ShrinkJob)
+        requires { (m0 : State) × (h : List machine.Event) × Stands self.old m0 h × IsOpenCopy job (state_after m0 h) }
+        ensures { (m0 : State) (h : List machine.Event) (pass : ℕ) → Stands self.old m0 h → IsOpenCopy job (state_after m0 h)
+            → After self.new m0 h pass (machine.ShrinkAbort job.slot) (Some machine.Done) }
+    {
+        shrink_end_stands();
+        shrink_plan::abort(job, &mut self.cells, &mut self.map);
+    }
+
+    /// Lets every storage go that is no longer in use and that nobody has pinned, and says how many these are. It takes
+    /// no memory.
+    pub fn recycle(&mut self) -> u64
+        ensures { (m0 : State) (h : List machine.Event) (pass : ℕ) → Stands self.old m0 h
+            → After self.new m0 h pass machine.Recycle (Some (machine.Recycled result)) }
+    {
+        recycle_stands();
+        self.cells.recycle()
     }
 
     /// What the book has, by counts that are kept.

@@ -13,6 +13,7 @@ mod pinning;
 mod purging;
 mod refusals;
 mod rooting;
+mod shrinking;
 mod storing;
 #[cfg(test)]
 mod tests;
@@ -21,5 +22,5 @@ pub use book::{Book, MAX_STORAGES};
 pub use loading::{Found, FoundAt};
 pub use refusals::{
     FlushRefusal, LeaseRefusal, LoadRefusal, NotLeased, NotPinned, RaiseRefusal, RootRefusal,
-    Rooted, StoreRefusal,
+    Rooted, ShrinkDone, ShrinkRefusal, StoreRefusal,
 };

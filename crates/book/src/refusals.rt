@@ -3,6 +3,7 @@ ghost use Rattle.std.specs.Prelude.{◌≡◌};
 use adb_model::Slot;
 use cell_table::CellFault;
 use flush_plan::BeginFault;
+use shrink_plan::BeginFault as CopyFault;
 use std::alloc::AllocError;
 
 /// Why nothing was stored.
@@ -87,6 +88,34 @@ pub enum FlushRefusal {
     IdsSpent,
     /// Want of memory.
     NoMemory,
+}
+
+/// Why no shrink began.
+#[derive(Clone, Copy, Debug, PartialEq, Eq)]
+pub enum ShrinkRefusal {
+    /// No storage of the slot is in use.
+    NoStorage { slot: Slot },
+    /// A shrink of the slot is open, which fills the storage with this id.
+    Shrinking { slot: Slot, id: u64 },
+    /// Loads may find each row of the slot's storage.
+    NothingDead { slot: Slot },
+    /// `used` bytes of storages and the `wanted` ones are above the budget.
+    Full { used: u64, wanted: u128, limit: u64 },
+    /// There are as many storages as there may be.
+    NoCell { limit: u64 },
+    /// The last id was given out.
+    IdsSpent,
+    /// Want of memory.
+    NoMemory,
+}
+
+/// How a shrink ended.
+#[derive(Clone, Copy, Debug, PartialEq, Eq)]
+pub enum ShrinkDone {
+    /// The copy took the old storage's place.
+    Installed,
+    /// The storage with the id `old` was no longer in use, so the copy went.
+    Superseded { slot: Slot, old: u64 },
 }
 
 impl From<AllocError> for StoreRefusal {
@@ -176,6 +205,53 @@ impl From<BeginFault> for FlushRefusal {
             },
             BeginFault::NoCell { limit } => FlushRefusal::NoCell { limit },
             BeginFault::NoMemory => FlushRefusal::NoMemory,
+        }
+    }
+}
+
+impl From<CellFault> for ShrinkRefusal {
+    ghost use Rattle.std.specs.Prelude.{◌≡◌};
+    ghost use Rattle.book.specs.Shrinking.{refusal_for};
+
+    ghost from_gives = { λ fault e. e ≡ refusal_for fault };
+
+    fn from(fault: CellFault) -> Self {
+        match fault {
+            CellFault::Full {
+                used,
+                wanted,
+                limit,
+            } => ShrinkRefusal::Full {
+                used,
+                wanted,
+                limit,
+            },
+            CellFault::NoCell { limit } => ShrinkRefusal::NoCell { limit },
+            CellFault::NoMemory => ShrinkRefusal::NoMemory,
+        }
+    }
+}
+
+impl From<CopyFault> for ShrinkRefusal {
+    ghost use Rattle.std.specs.Prelude.{◌≡◌};
+    ghost use Rattle.shrink_plan.specs.Causes.{cell_fault};
+    ghost use Rattle.book.specs.Shrinking.{refusal_for};
+
+    ghost from_gives = { λ fault e. e ≡ refusal_for (cell_fault fault) };
+
+    fn from(fault: CopyFault) -> Self {
+        match fault {
+            CopyFault::Full {
+                used,
+                wanted,
+                limit,
+            } => ShrinkRefusal::Full {
+                used,
+                wanted,
+                limit,
+            },
+            CopyFault::NoCell { limit } => ShrinkRefusal::NoCell { limit },
+            CopyFault::NoMemory => ShrinkRefusal::NoMemory,
         }
     }
 }

@@ -53,6 +53,12 @@ begin-requires-clause-differ c =
     let ok = c.in_default.ensures in
     (c.flush_begin_stands.ensures.may (seen c.self.inside) i.start i.history c.args.slot i.stands ok.0 ok.1 ok.2).1
 
+pub begin-requires-clause-fresh : goal.begin-requires-clause-fresh
+begin-requires-clause-fresh c = λ k has.
+    let i = c.self.invariant in
+    let ok = c.in_default.ensures in
+    (c.flush_begin_stands.ensures.may (seen c.self.inside) i.start i.history c.args.slot i.stands ok.0 ok.1 ok.2).3 k
+
 -- ---- want of room or memory
 
 abbrev with_map : Parts → Index → Slots → Parts
