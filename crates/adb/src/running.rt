@@ -6,6 +6,7 @@ ghost use Rattle.adb.specs.Run.{is_replay as asks_replay, usage_line, read_fault
 
 use replay::run_replay;
 use script::{ScriptFault, parse};
+use std::mem::forget;
 use stream_io::{ReadFault, Sink, Source, read_whole, write_whole};
 
 /// The most bytes that a script has.
@@ -68,11 +69,16 @@ fn play<R: AllocGlobal, K: Sink>(rt: &R, bytes: Vec<u8>, sink: &mut K) -> End
             end_with(sink, "script: refused\n");
             End::Refused
         }
-        Ok(script) => match run_replay(rt, &script, sink) {
-            0 => End::Done,
-            4 => End::SinkFault,
-            _ => End::NoMemory,
-        },
+        Ok(script) => {
+            let end = match run_replay(rt, &script, sink) {
+                0 => End::Done,
+                4 => End::SinkFault,
+                _ => End::NoMemory,
+            };
+            // The run ends here: to give back what each line holds would only take time.
+            forget(script);
+            end
+        }
     }
 }
 

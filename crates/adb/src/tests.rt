@@ -142,6 +142,16 @@ fn scripts_have_these_journals(rt: HostRuntime) -> Result<(), Fail> {
             "1 store 2 01 1\n1 root 2\n1 flush 2 16\n1 load -@all 01\n2 get -@all 01\n2 unpin 1\n1 stats\n1 unpin 1\n1 unpin 1\n",
             "1 store 2 01 1 00 0 0 - = ok\n1 root 2 = ok\n1 flush-begin 2 = ok 1 136\n1 flush-end 2 = ok\n1 load -@all 01 = some 2 1 1 00 0 0 -\n2 load -@all 01 = some 2 1 1 00 0 0 -\n2 unpin 1 = ok\n2 unpin 1 = not-pinned 1\n1 stats = cached 0 filling 0 live 1 retired 0 named 1 rows 1 bytes 136 pins 1\n1 unpin 1 = ok\n1 unpin 1 = not-pinned 1\n",
         ),
+        (
+            "a deletion that stays while a storage has a row below it, and goes after a shrink",
+            "1 store 2 01 10\n1 store 2 02 20\n1 root 2\n1 flush 2\n1 store 6 01 0\n1 root 6\n1 flush 6\n1 clean 6\n1 stats\n1 shrink 2\n1 clean 6\n1 stats\n1 recycle\n1 stats\n",
+            "1 store 2 01 10 00 0 0 - = ok\n1 store 2 02 20 00 0 0 - = ok\n1 root 2 = ok\n1 flush-begin 2 = ok 1 272\n1 flush-end 2 = ok\n1 store 6 01 0 00 0 0 - = ok\n1 root 6 = ok\n1 flush-begin 6 = ok 2 136\n1 flush-end 6 = ok\n1 raise 6 = ok 6\n1 reclaim - 256 = ok 01\n1 reclaim 01 256 = done\n1 stats = cached 0 filling 0 live 2 retired 0 named 2 rows 3 bytes 408 pins 0\n1 shrink-begin 2 = ok 1 3 136\n1 shrink-end 2 = ok\n1 raise 6 = ok 6\n1 reclaim - 256 = ok 01\n1 reclaim 01 256 = done\n1 stats = cached 0 filling 0 live 1 retired 2 named 1 rows 1 bytes 544 pins 0\n1 recycle = ok 2\n1 stats = cached 0 filling 0 live 1 retired 0 named 1 rows 1 bytes 136 pins 0\n",
+        ),
+        (
+            "a storage that a pin holds, and the budget that it takes",
+            "budget 408\n1 store 2 01 1\n1 root 2\n1 flush 2\n1 load -@all 01\n1 store 3 01 2\n1 root 3\n1 flush 3\n1 clean 3\n1 recycle\n1 store 4 02 5 00 0 0 aa\n1 root 4\n1 flush 4\n1 unpin 1\n1 recycle\n1 flush 4\n1 unpin 1\n1 get -@all 02\n",
+            "budget 408 = ok\n1 store 2 01 1 00 0 0 - = ok\n1 root 2 = ok\n1 flush-begin 2 = ok 1 136\n1 flush-end 2 = ok\n1 load -@all 01 = some 2 1 1 00 0 0 -\n1 store 3 01 2 00 0 0 - = ok\n1 root 3 = ok\n1 flush-begin 3 = ok 2 136\n1 flush-end 3 = ok\n1 raise 3 = ok 3\n1 reclaim - 256 = ok 01\n1 reclaim 01 256 = done\n1 recycle = ok 0\n1 store 4 02 5 00 0 0 aa = ok\n1 root 4 = ok\n1 flush-begin 4 = full 272 144 408\n1 unpin 1 = ok\n1 recycle = ok 1\n1 flush-begin 4 = ok 3 144\n1 flush-end 4 = ok\n1 unpin 1 = not-pinned 1\n1 load -@all 02 = some 4 3 5 00 0 0 aa\n1 unpin 3 = ok\n",
+        ),
     ];
     for (name, script, journal) in table {
         let (status, wrote) = replayed(&rt, script, &[], &[])?;

@@ -1,8 +1,8 @@
 -- How a player stands after one more event.
-use Rattle.std.proofs.Common.{◌≡◌, ◌≢◌, ℕ, ◌-◌, ◌==◌, List, [], ◌∷◌, ◌++◌, set, count_by, Option, Some, None, Err, refl, sym, ap, subst, ◌∙◌}
+use Rattle.std.proofs.Common.{◌≡◌, ◌≢◌, ℕ, ◌-◌, ◌==◌, List, [], ◌∷◌, ◌++◌, set, count_by, Option, Some, None, Err, refl, sym, ap, subst, ◌∙◌, arith}
 use Rattle.std.specs.Option.{option_map}
 use Rattle.adb_model.specs.State.{State, Storage}
-use Rattle.adb_model.specs.Storages.{open_flush, bytes_of}
+use Rattle.adb_model.specs.Storages.{open_flush, open_shrink, bytes_of}
 use Rattle.adb_model.specs.Call as machine
 use Rattle.adb_model.specs.Call.{Event, Call, Reply, Refusal, Refused, FlushBegun, Flushing}
 use Rattle.adb_model.specs.Outcome.{unless, first_of, room_refusals}
@@ -14,17 +14,21 @@ use Rattle.book_parts.specs.Reflects.{Reflects}
 use Rattle.book_parts.specs.Pins.{HoldsPins}
 use Rattle.adb_model.specs.Callers.{is_pin}
 use Rattle.adb_model.specs.Step.{step}
-use Rattle.adb_model.specs.History.{state_after, IsLegal}
+use Rattle.adb_model.specs.History.{state_after, IsLegal, IsPass}
 use Rattle.pass_pins.specs.Pins.{Pins}
-use Rattle.flush_plan.specs.Jobs.{Job}
+use Rattle.flush_plan.specs.Jobs.{Job, storage_of}
 use Rattle.book_parts.specs.Parts.{Parts}
+use Rattle.book_parts.specs.Shrinks.{Copy}
 use Rattle.book_parts.specs.Stands.{Stands, After, AfterWithPins, with_event}
 use Rattle.book.specs.declared.refusals.FlushRefusal.{FlushRefusal}
 use Rattle.book.specs.declared.refusals.FlushRefusal.TheVariants as flushes
-use Rattle.book.specs.Replies.{flush_reply}
-use Rattle.replay.specs.Standing.{IsLane, Lanes, LanesHold, JobsStand, PlayerStands}
+use Rattle.book.specs.declared.refusals.ShrinkRefusal.{ShrinkRefusal}
+use Rattle.book.specs.declared.refusals.ShrinkRefusal.TheVariants as shrinks
+use Rattle.book.specs.Replies.{flush_reply, shrink_reply}
+use Rattle.replay.specs.Standing.{IsLane, Lanes, LanesHold, JobsStand, ShrinksStand, PlayerStands}
 use Rattle.replay.proofs.Lanes.{lanes_as, lanes_with}
-use Rattle.replay.proofs.Jobs.{jobs_as}
+use Rattle.replay.proofs.InHand.{open_as}
+use Rattle.replay.proofs.Copies.{CopiesStay, shrinks_as}
 
 abbrev pub StateGoesOn : Type 0
 StateGoesOn = (m : State) (h : List Event) (e : Event) → state_after m (h ++ e ∷ []) ≡ (step (state_after m h) e.pass e.call).0
@@ -49,45 +53,55 @@ stands_same b start h g e legal st = record {
   parts = subst (λ (m : State). Reflects b m) e st.parts;
 }
 
+-- the number of a lane is that of a pass
+pub is_pass : (lane : ℕ) → IsLane lane → IsPass lane
+is_pass lane is = (is.0, omega (arith, is.1))
+
 module _ (goes_on : StateGoesOn) (start : State) (h : List Event) (pass : ℕ) (call : Call) where
+  abbrev before : State
+  before = state_after start h
+
+  abbrev after : State
+  after = (step before pass call).0
+
   -- what holds after the step holds after the event
-  pub after_event : (P : State → Type 0) (reply : Reply) → P (step (state_after start h) pass call).0 → P (state_after start (h ++ event pass call reply ∷ []))
+  pub after_event : (P : State → Type 0) (reply : Reply) → P after → P (state_after start (h ++ event pass call reply ∷ []))
   after_event P reply p = subst P (sym (goes_on start h (event pass call reply))) p
 
-  pub steady_after : (p : Lanes) (new : Parts) (reply : Option Reply) → (step (state_after start h) pass call).0.pins ≡ (state_after start h).pins
-      → ((s : ℕ) → open_flush (step (state_after start h) pass call).0 s ≡ open_flush (state_after start h) s)
-      → PlayerStands p start h → After new start h pass call reply → PlayerStands (record p { book = new }) start (with_event h pass call reply)
-  steady_after p new None pins flushes st after = record { book = after; pins = st.pins; jobs = st.jobs }
-  steady_after p new (Some reply) pins flushes st after = record {
-    book = after;
-    pins = after_event (λ n. LanesHold p.pins n) reply (lanes_as p.pins (state_after start h) (step (state_after start h) pass call).0 pins st.pins);
-    jobs = after_event (λ n. JobsStand p.jobs n) reply (jobs_as p.jobs (state_after start h) (step (state_after start h) pass call).0 flushes st.jobs);
+  -- the player stands for a history with one more event, where what it has in hand stands after the step
+  pub made : (p : Lanes) (new : Parts) (jobs : List Job) (copies : List Copy) (reply : Reply) → after.pins ≡ before.pins → JobsStand jobs after → ShrinksStand copies after
+      → PlayerStands p start h → After new start h pass call (Some reply)
+      → PlayerStands (record p { book = new; jobs = jobs; shrinks = copies }) start (with_event h pass call (Some reply))
+  made p new jobs copies reply pins js cs st told = record {
+    book = told;
+    pins = after_event (λ n. LanesHold p.pins n) reply (lanes_as p.pins before after pins st.pins);
+    jobs = after_event (λ n. JobsStand jobs n) reply js;
+    shrinks = after_event (λ n. ShrinksStand copies n) reply cs;
   }
 
-  -- other jobs, while the pins stay
-  pub with_jobs : (p : Lanes) (new : Parts) (jobs : List Job) (reply : Reply) → (step (state_after start h) pass call).0.pins ≡ (state_after start h).pins
-      → JobsStand jobs (step (state_after start h) pass call).0
-      → PlayerStands p start h → After new start h pass call (Some reply) → PlayerStands (record p { book = new; jobs = jobs }) start (with_event h pass call (Some reply))
-  with_jobs p new jobs reply pins js st after = record {
-    book = after;
-    pins = after_event (λ n. LanesHold p.pins n) reply (lanes_as p.pins (state_after start h) (step (state_after start h) pass call).0 pins st.pins);
-    jobs = after_event (λ n. JobsStand jobs n) reply js;
-  }
+  -- the same flushes and shrinks are open
+  pub steady_after : CopiesStay → IsLane pass → (p : Lanes) (new : Parts) (reply : Option Reply) → after.pins ≡ before.pins → ((s : ℕ) → open_flush after s ≡ open_flush before s)
+      → ((s : ℕ) → open_shrink after s ≡ open_shrink before s)
+      → PlayerStands p start h → After new start h pass call reply → PlayerStands (record p { book = new }) start (with_event h pass call reply)
+  steady_after stay is p new None pins flushes shrinks st told = record { book = told; pins = st.pins; jobs = st.jobs; shrinks = st.shrinks }
+  steady_after stay is p new (Some reply) pins flushes shrinks st told =
+      made p new p.jobs p.shrinks reply pins (open_as (λ (j : Job). j.slot) storage_of p.jobs (open_flush before) (open_flush after) flushes st.jobs) (shrinks_as stay before st.book.sound pass (is_pass pass is) call p.shrinks st.shrinks shrinks) st told
 
 -- a call of a lane that takes or gives back a pin
-module _ (goes_on : StateGoesOn)
+module _ (goes_on : StateGoesOn) (stay : CopiesStay)
     (others : (m : State) (pass p : ℕ) (c : Call) → pass ≢ p → (id : ℕ) → count_by (is_pin p id) (step m pass c).0.pins ≡ count_by (is_pin p id) m.pins)
     (others_of : (m : State) (pass p : ℕ) (c : Call) → pass ≢ p → count_by (λ q. q.pass == p) (step m pass c).0.pins ≡ count_by (λ q. q.pass == p) m.pins)
     (start : State) (h : List Event) (lane : ℕ) (call : Call) where
   pub lane_after : (p : Lanes) (new : Parts) (after : Pins) (reply : Option Reply) → ((s : ℕ) → open_flush (step (state_after start h) lane call).0 s ≡ open_flush (state_after start h) s)
-      → IsLane lane → PlayerStands p start h → after.pass ≡ lane → AfterWithPins new after start h call reply
+      → ((s : ℕ) → open_shrink (step (state_after start h) lane call).0 s ≡ open_shrink (state_after start h) s) → IsLane lane → PlayerStands p start h → after.pass ≡ lane → AfterWithPins new after start h call reply
       → PlayerStands (record p { book = new; pins = set p.pins (lane - 1) after }) start (with_event h lane call reply)
-  lane_after p new after None flushes is st same made = record {
+  lane_after p new after None flushes shrinks is st same made = record {
     book = made.stands;
     pins = lanes_with p.pins (state_after start h) (state_after start h) lane after is st.pins same made.pins (λ pass ne id. refl) (λ pass ne. refl);
     jobs = st.jobs;
+    shrinks = st.shrinks;
   }
-  lane_after p new after (Some reply) flushes is st same made =
+  lane_after p new after (Some reply) flushes shrinks is st same made =
       let m = state_after start h in
       let g = h ++ event lane call reply ∷ [] in
       let n = state_after start g in
@@ -97,7 +111,8 @@ module _ (goes_on : StateGoesOn)
         pins = lanes_with p.pins m n lane after is st.pins same (subst (λ (k : ℕ). HoldsPins after (state_after start (h ++ event k call reply ∷ []))) same made.pins)
             (λ q ne id. ap (λ (o : State). count_by (is_pin q id) o.pins) to ∙ others m lane q call ne id)
             (λ q ne. ap (λ (o : State). count_by (λ r. r.pass == q) o.pins) to ∙ others_of m lane q call ne);
-        jobs = after_event goes_on start h lane call (λ o. JobsStand p.jobs o) reply (jobs_as p.jobs m (step m lane call).0 flushes st.jobs);
+        jobs = after_event goes_on start h lane call (λ o. JobsStand p.jobs o) reply (open_as (λ (j : Job). j.slot) storage_of p.jobs (open_flush m) (open_flush (step m lane call).0) flushes st.jobs);
+        shrinks = after_event goes_on start h lane call (λ o. ShrinksStand p.shrinks o) reply (shrinks_as stay m st.book.sound lane (is_pass lane is) call p.shrinks st.shrinks shrinks);
       }
 
 -- a flush begins only where none of its slot was open
@@ -123,22 +138,40 @@ with_none on legal start h pass call refusal p nothing st =
       book = stands_same p.book start h (h ++ e ∷ []) same (legal start h e st.book.legal (sym (ap (λ d. d.1) nothing))) st.book;
       pins = subst (λ (n : State). LanesHold p.pins n) same st.pins;
       jobs = subst (λ (n : State). JobsStand p.jobs n) same st.jobs;
+      shrinks = subst (λ (n : State). ShrinksStand p.shrinks n) same st.shrinks;
     }
 
-abbrev pub BeginRefused : Type 0
-BeginRefused = (m : State) (pass slot : ℕ) (refusal : Refusal) → (step m pass (machine.FlushBegin slot)).1 ≡ Refused refusal → (step m pass (machine.FlushBegin slot)).0 ≡ m
+-- a begin that is refused changes nothing
+abbrev pub BeginRefused : (ℕ → Call) → Type 0
+BeginRefused begin = (m : State) (pass slot : ℕ) (refusal : Refusal) → (step m pass (begin slot)).1 ≡ Refused refusal → (step m pass (begin slot)).0 ≡ m
 
-module _ (on : StateGoesOn) (each_legal : EachLegal) (unchanged : BeginRefused) (p : Lanes) (new : Parts) (start : State) (h : List Event) (pass slot : ℕ) (st : PlayerStands p start h) where
-  begin_refused : (r : Refusal) → After new start h pass (machine.FlushBegin slot) (Some (Refused r)) → PlayerStands (record p { book = new }) start (with_event h pass (machine.FlushBegin slot) (Some (Refused r)))
-  begin_refused r after =
-      let same = unchanged (state_after start h) pass slot r (last_reply each_legal start h pass (machine.FlushBegin slot) (Refused r) after.legal) in
-      steady_after on start h pass (machine.FlushBegin slot) p new (Some (Refused r)) (ap (λ (n : State). n.pins) same) (λ s. ap (λ (n : State). open_flush n s) same) st after
+module _ (on : StateGoesOn) (stay : CopiesStay) (each_legal : EachLegal) (p : Lanes) (new : Parts) (start : State) (h : List Event) (pass slot : ℕ) (is : IsLane pass) (st : PlayerStands p start h) where
+  begin_refused : (begin : ℕ → Call) → BeginRefused begin → (r : Refusal) → After new start h pass (begin slot) (Some (Refused r))
+      → PlayerStands (record p { book = new }) start (with_event h pass (begin slot) (Some (Refused r)))
+  begin_refused begin unchanged r after =
+      let same = unchanged (state_after start h) pass slot r (last_reply each_legal start h pass (begin slot) (Refused r) after.legal) in
+      steady_after on start h pass (begin slot) stay is p new (Some (Refused r)) (ap (λ (n : State). n.pins) same) (λ s. ap (λ (n : State). open_flush n s) same)
+      (λ s. ap (λ (n : State). open_shrink n s) same) st after
 
-  pub refused_after : (refusal : FlushRefusal) → After new start h pass (machine.FlushBegin slot) (flush_reply (Err refusal)) → PlayerStands (record p { book = new }) start (with_event h pass (machine.FlushBegin slot) (flush_reply (Err refusal)))
-  refused_after (flushes.NotRooted s) after = begin_refused (machine.NotRooted s) after
-  refused_after (flushes.NothingCached s) after = begin_refused (machine.NothingCached s) after
-  refused_after (flushes.Flushing s id) after = begin_refused (machine.Flushing s id) after
-  refused_after (flushes.Full used wanted limit) after = begin_refused (machine.Full used wanted limit) after
-  refused_after (flushes.NoCell limit) after = begin_refused (machine.NoCell limit) after
-  refused_after flushes.IdsSpent after = begin_refused machine.IdsSpent after
-  refused_after flushes.NoMemory after = record { book = after; pins = st.pins; jobs = st.jobs }
+  none_begun : (call : Call) → After new start h pass call None → PlayerStands (record p { book = new }) start (with_event h pass call None)
+  none_begun call after = record { book = after; pins = st.pins; jobs = st.jobs; shrinks = st.shrinks }
+
+  pub flush_refused : BeginRefused machine.FlushBegin → (refusal : FlushRefusal) → After new start h pass (machine.FlushBegin slot) (flush_reply (Err refusal))
+      → PlayerStands (record p { book = new }) start (with_event h pass (machine.FlushBegin slot) (flush_reply (Err refusal)))
+  flush_refused unchanged (flushes.NotRooted s) after = begin_refused machine.FlushBegin unchanged (machine.NotRooted s) after
+  flush_refused unchanged (flushes.NothingCached s) after = begin_refused machine.FlushBegin unchanged (machine.NothingCached s) after
+  flush_refused unchanged (flushes.Flushing s id) after = begin_refused machine.FlushBegin unchanged (machine.Flushing s id) after
+  flush_refused unchanged (flushes.Full used wanted limit) after = begin_refused machine.FlushBegin unchanged (machine.Full used wanted limit) after
+  flush_refused unchanged (flushes.NoCell limit) after = begin_refused machine.FlushBegin unchanged (machine.NoCell limit) after
+  flush_refused unchanged flushes.IdsSpent after = begin_refused machine.FlushBegin unchanged machine.IdsSpent after
+  flush_refused unchanged flushes.NoMemory after = none_begun (machine.FlushBegin slot) after
+
+  pub shrink_refused : BeginRefused machine.ShrinkBegin → (refusal : ShrinkRefusal) → After new start h pass (machine.ShrinkBegin slot) (shrink_reply (Err refusal))
+      → PlayerStands (record p { book = new }) start (with_event h pass (machine.ShrinkBegin slot) (shrink_reply (Err refusal)))
+  shrink_refused unchanged (shrinks.NoStorage s) after = begin_refused machine.ShrinkBegin unchanged (machine.NoStorage s) after
+  shrink_refused unchanged (shrinks.Shrinking s id) after = begin_refused machine.ShrinkBegin unchanged (machine.Shrinking s id) after
+  shrink_refused unchanged (shrinks.NothingDead s) after = begin_refused machine.ShrinkBegin unchanged (machine.NothingDead s) after
+  shrink_refused unchanged (shrinks.Full used wanted limit) after = begin_refused machine.ShrinkBegin unchanged (machine.Full used wanted limit) after
+  shrink_refused unchanged (shrinks.NoCell limit) after = begin_refused machine.ShrinkBegin unchanged (machine.NoCell limit) after
+  shrink_refused unchanged shrinks.IdsSpent after = begin_refused machine.ShrinkBegin unchanged machine.IdsSpent after
+  shrink_refused unchanged shrinks.NoMemory after = none_begun (machine.ShrinkBegin slot) after

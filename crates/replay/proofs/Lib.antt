@@ -1,5 +1,6 @@
 pub mod Lanes
-pub mod Jobs
+pub mod InHand
+pub mod Copies
 pub mod NoPins
 pub mod GoingOn
 pub mod Found

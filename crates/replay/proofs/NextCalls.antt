@@ -1,24 +1,26 @@
 -- The calls that are left of an order: one more at the most, but for the reclaims of a clean, each of which leaves fewer crowded keys.
-use Rattle.std.proofs.Common.{◌≡◌, ℕ, zero, suc, ◌+◌, ◌<◌, ◌≤◌, List, [], ◌∷◌, length, Option, Some, None, refl, sym, subst, arith}
+use Rattle.std.proofs.Common.{◌≡◌, ℕ, zero, suc, ◌+◌, ◌<◌, ◌≤◌, List, [], ◌∷◌, length, Bool, true, false, if◌then◌else◌, Option, Some, None, refl, sym, subst, arith}
 use Rattle.std.specs.Option.{option_map_or}
 use Rattle.std.proofs.lemmas.Option.{same_Some}
 use Rattle.adb_model.specs.View.{View}
+use Rattle.adb_model.specs.State as state
 use Rattle.adb_model.specs.State.{State, Storage}
-use Rattle.adb_model.specs.Storages.{open_flush}
+use Rattle.adb_model.specs.Storages.{open_flush, open_shrink}
 use Rattle.adb_model.specs.Lists.{last}
 use Rattle.adb_model.specs.Call as machine
-use Rattle.adb_model.specs.Call.{Call, Refusal, Reply, Event, NotFlushing, Done}
+use Rattle.adb_model.specs.Call.{Call, Refusal, Reply, Event, NotFlushing, NotShrinking, Done, Superseded}
 use Rattle.adb_model.specs.Outcome.{unless, when_found}
+use Rattle.adb_model.specs.Shrink.{is_current, installed, copy_dropped}
 use Rattle.adb_model.specs.Reclaim.{keys_taken, reclaimed}
 use Rattle.adb_model.specs.Cleaning.{crowded_above}
 use Rattle.adb_model.specs.Step.{step}
 use Rattle.adb_model.specs.History.{IsLegal}
 use Rattle.adb_model.specs.Plays as plays
 use Rattle.adb_model.specs.Plays.{next_call, Follow}
-use Rattle.script.specs.Said.{Order, Plain, Get, Flush, Clean, order_played}
+use Rattle.script.specs.Said.{Order, Plain, Get, Flush, Clean, Shrink, order_played}
 use Rattle.replay.specs.Playing.{event_of}
 
--- ---- no get and no flush has a third call
+-- ---- no get, no flush and no shrink has a third call
 
 after_refusal : (view : View) (key : List ℕ) (o : Option Refusal) (m n : State) → next_call (plays.Get view key) (Some (unless o m (n, Done)).1) ≡ None
 after_refusal view key None m n = refl
@@ -28,6 +30,18 @@ after_end : (slot : ℕ) (o : Option Storage) (m : State) (f : Storage → State
 after_end slot None m f = refl
 after_end slot (Some t) m f = refl
 
+abbrev either : Bool → State × Reply → State × Reply → State × Reply
+either b in_time late = if b then in_time else late
+
+after_shrink : (slot : ℕ) (o : Option state.Shrink) (m : State) (current : state.Shrink → Bool) (f g : state.Shrink → State)
+    → next_call (plays.Shrink slot) (Some (when_found o (NotShrinking slot) m (λ h. either (current h) (f h, Done) (g h, Superseded slot h.old))).1) ≡ None
+after_shrink slot None m current f g = refl
+after_shrink slot (Some h) m current f g = by (current h)
+  where
+    by : (b : Bool) → next_call (plays.Shrink slot) (Some (either b (f h, Done) (g h, Superseded slot h.old)).1) ≡ None
+    by true = refl
+    by false = refl
+
 abbrev IsLast : plays.Order → State → ℕ → Call → Type 0
 IsLast order m pass call = next_call order (Some (step m pass call).1) ≡ None
 
@@ -36,6 +50,9 @@ unpin_ends view key id m pass = after_refusal view key _ m _
 
 flush_ends : (slot : ℕ) (m : State) (pass : ℕ) → IsLast (plays.Flush slot) m pass (machine.FlushEnd slot)
 flush_ends slot m pass = after_end slot (open_flush m slot) m _
+
+shrink_ends : (slot : ℕ) (m : State) (pass : ℕ) → IsLast (plays.Shrink slot) m pass (machine.ShrinkEnd slot)
+shrink_ends slot m pass = after_shrink slot (open_shrink m slot) m (is_current m) (installed m) (copy_dropped m)
 
 get_second : (view : View) (key : List ℕ) (r : Reply) (call : Call) → next_call (plays.Get view key) (Some r) ≡ Some call → (m : State) (pass : ℕ) → IsLast (plays.Get view key) m pass call
 get_second view key machine.Done call e m pass = absurd cc
@@ -69,6 +86,22 @@ flush_second slot (machine.Superseded s old) call e m pass = absurd cc
 flush_second slot (machine.SnapBegun storages) call e m pass = absurd cc
 flush_second slot (machine.Recycled storages) call e m pass = absurd cc
 flush_second slot (machine.Counted counts) call e m pass = absurd cc
+
+shrink_second : (slot : ℕ) (r : Reply) (call : Call) → next_call (plays.Shrink slot) (Some r) ≡ Some call → (m : State) (pass : ℕ) → IsLast (plays.Shrink slot) m pass call
+shrink_second slot machine.Done call e m pass = absurd cc
+shrink_second slot (machine.Refused refusal) call e m pass = absurd cc
+shrink_second slot (machine.Purged keys) call e m pass = absurd cc
+shrink_second slot machine.NotFound call e m pass = absurd cc
+shrink_second slot (machine.Found s place account) call e m pass = absurd cc
+shrink_second slot (machine.FlushBegun id bytes) call e m pass = absurd cc
+shrink_second slot (machine.Raised cleaned) call e m pass = absurd cc
+shrink_second slot (machine.Reclaimed k) call e m pass = absurd cc
+shrink_second slot machine.NothingLeft call e m pass = absurd cc
+shrink_second slot (machine.ShrinkBegun old new bytes) call e m pass = subst (λ (c : Call). IsLast (plays.Shrink slot) m pass c) (same_Some (machine.ShrinkEnd slot) call e) (shrink_ends slot m pass)
+shrink_second slot (machine.Superseded s old) call e m pass = absurd cc
+shrink_second slot (machine.SnapBegun storages) call e m pass = absurd cc
+shrink_second slot (machine.Recycled storages) call e m pass = absurd cc
+shrink_second slot (machine.Counted counts) call e m pass = absurd cc
 
 -- ---- the calls of a clean
 
@@ -126,6 +159,8 @@ fewer_calls (Get view key) reply call m pass told old new more is fewer =
     none_left (next_call (plays.Get view key) (Some told)) call old new (subst (λ (r : Reply). next_call (plays.Get view key) (Some r) ≡ None) is (get_second view key reply call more m pass))
 fewer_calls (Flush slot workers) reply call m pass told old new more is fewer =
     none_left (next_call (plays.Flush slot) (Some told)) call old new (subst (λ (r : Reply). next_call (plays.Flush slot) (Some r) ≡ None) is (flush_second slot reply call more m pass))
+fewer_calls (Shrink slot) reply call m pass told old new more is fewer =
+    none_left (next_call (plays.Shrink slot) (Some told)) call old new (subst (λ (r : Reply). next_call (plays.Shrink slot) (Some r) ≡ None) is (shrink_second slot reply call more m pass))
 fewer_calls (Clean upto) reply call m pass told old new more is fewer =
     let c = clean_second upto reply call more in
     let P : Call → Type 0 = λ (d : Call). (step m pass d).1 ≡ told → Fewer old new d told → calls_left new (next_call (plays.Clean upto) (Some told)) < calls_left old (Some d) in

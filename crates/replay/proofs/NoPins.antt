@@ -1,10 +1,10 @@
--- A player whose lanes have no pins in hand, and no flush either.
+-- A player whose lanes have no pins in hand, and no flush and no shrink either.
 use Rattle.std.proofs.Common.{◌≡◌, ℕ, zero, suc, ◌+◌, ◌<◌, ◌==◌, ◌&&◌, not, cond, IsFalse, List, [], ◌∷◌, ◌++◌, length, find, Some, None, refl, sym, ap, subst, ◌∙◌, ◌⊎◌, inl, inr, arith, count_by, slice_get}
 use Rattle.std.specs.List.{AllByRecursion}
 use Rattle.std.proofs.lemmas.Bool.{and_left}
 use Rattle.std.proofs.lemmas.Option.{slice_get_within, same_Some}
-use Rattle.std.proofs.lemmas.List.Elements.{recursion_from_All}
-use Rattle.adb_model.specs.State.{Pin, Storage, State}
+use Rattle.std.proofs.lemmas.List.Elements.{All-nil, recursion_from_All}
+use Rattle.adb_model.specs.State.{Pin, Shrink, Storage, State}
 use Rattle.adb_model.specs.Storages.{is_filling, is_copy}
 use Rattle.adb_model.specs.Call.{Event}
 use Rattle.adb_model.specs.Callers.{is_pin}
@@ -13,8 +13,9 @@ use Rattle.pass_pins.specs.Pins.{Pins}
 use Rattle.flush_plan.specs.Jobs.{Job}
 use Rattle.book_parts.specs.Parts.{Parts}
 use Rattle.book_parts.specs.Pins.{HoldsPins}
+use Rattle.book_parts.specs.Shrinks.{Copy}
 use Rattle.book_parts.specs.Stands.{Stands}
-use Rattle.replay.specs.Standing.{JobsStand, PlayerStands, IsQuiet, HaveNoPins}
+use Rattle.replay.specs.Standing.{JobsStand, ShrinksStand, PlayerStands, IsQuiet, HaveNoPins}
 
 -- ---- no flush
 
@@ -27,6 +28,15 @@ no_jobs : (jobs : List Job) (m : State) → jobs ≡ [] → IsQuiet m → JobsSt
 no_jobs jobs m empty quiet = subst (λ (js : List Job). JobsStand js m) (sym empty) (record {
   each = λ s. none_filling m s m.storages (recursion_from_All (λ t. IsFalse (is_filling t)) m.storages quiet.filling);
   differ = λ s. omega arith;
+})
+
+no_shrinks : (copies : List Copy) (m : State) → copies ≡ [] → IsQuiet m → ShrinksStand copies m
+no_shrinks copies m empty quiet = subst (λ (cs : List Copy). ShrinksStand cs m) (sym empty) (record {
+  opened = record {
+    each = λ s. ap (λ (hs : List Shrink). find (λ h. h.slot == s) hs) quiet.shrinks;
+    differ = λ s. omega arith;
+  };
+  copies = All-nil _;
 })
 
 -- ---- no pins
@@ -67,16 +77,17 @@ no_pins m i p quiet lt is =
       },
     )
 
--- a book in whose state nobody has anything pinned, and no flush is open
-pub unpinned_stands : (b : Parts) (pins : List Pins) (jobs : List Job) (start : State) (h : List Event) → HaveNoPins pins → jobs ≡ [] → Stands b start h → IsQuiet (state_after start h)
-    → PlayerStands (record { book = b; pins = pins; jobs = jobs }) start h
-unpinned_stands b pins jobs start h none empty st quiet = record {
+-- a book in whose state nobody has anything pinned, and no flush or shrink is open
+pub unpinned_stands : (b : Parts) (pins : List Pins) (jobs : List Job) (copies : List Copy) (start : State) (h : List Event) → HaveNoPins pins → jobs ≡ [] → copies ≡ [] → Stands b start h → IsQuiet (state_after start h)
+    → PlayerStands (record { book = b; pins = pins; jobs = jobs; shrinks = copies }) start h
+unpinned_stands b pins jobs copies start h none empty bare st quiet = record {
   book = st;
   pins = record {
     count = none.count;
     each = λ i p at. no_pins (state_after start h) i p quiet.pins (omega (arith, slice_get_within pins i p at, none.count)) (none.each i p at);
   };
   jobs = no_jobs jobs (state_after start h) empty quiet;
+  shrinks = no_shrinks copies (state_after start h) bare quiet;
 }
 
 pub none_first : (pins : List Pins) → pins ≡ [] → FirstHaveNone 0 pins

@@ -4,7 +4,7 @@ use Rattle.std.specs.List.{All, AllByRecursion}
 use Rattle.std.proofs.lemmas.List.Elements.{All-from_recursion}
 use Rattle.adb_model.specs.Call.{Call, Reclaim}
 use Rattle.script.specs.Grammar.{IsOrder, AreLines, AreSaid}
-use Rattle.script.specs.Said.{Order, Plain, Get, Flush, Clean}
+use Rattle.script.specs.Said.{Order, Plain, Get, Flush, Clean, Shrink}
 use Rattle.script.specs.declared.line.Line as code
 use Rattle.script.specs.Seen.{line_seen}
 use Rattle.replay.specs.Standing.{IsOfFewKeys}
@@ -19,6 +19,7 @@ within_limits ws (Plain call) h = few_keys ws call h
 within_limits ws (Get view key) h = tt
 within_limits ws (Flush slot workers) h = (h.workers_are.least, h.workers_are.most)
 within_limits ws (Clean upto) h = tt
+within_limits ws (Shrink slot) h = tt
 
 each_is_playable : (words : List (List (List ℕ))) (lines : List code.Line) → AreLines words (map line_seen lines) → AllByRecursion (λ (l : code.Line). IsPlayable (line_seen l)) lines
 each_is_playable [] [] h = tt

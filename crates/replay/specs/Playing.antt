@@ -8,7 +8,7 @@ use Rattle.adb_model.specs.Call.{Call, Reply, Event}
 use Rattle.adb_model.specs.History.{IsLegal}
 use Rattle.adb_model.specs.Plays as machine
 use Rattle.adb_model.specs.Plays.{Follow}
-use Rattle.script.specs.Said.{Order, Plain, Get, Flush, Clean, Line, Said}
+use Rattle.script.specs.Said.{Order, Plain, Get, Flush, Clean, Shrink, Line, Said}
 use Rattle.script.specs.Text.{text_of, journal_of}
 use Rattle.replay.specs.Standing.{IsLane, IsOfFewKeys, Lanes, PlayerStands}
 use Rattle.replay.specs.Journaled.{start_of, PlayedAll}
@@ -19,6 +19,7 @@ IsWithinLimits (Plain call) = IsOfFewKeys call
 IsWithinLimits (Get view key) = Unit {0}
 IsWithinLimits (Flush slot workers) = (1 ≤ workers) × (workers ≤ 16)
 IsWithinLimits (Clean upto) = Unit {0}
+IsWithinLimits (Shrink slot) = Unit {0}
 
 -- the line is of a lane, and its order is within limits
 abbrev pub IsPlayable : Line → Type 0

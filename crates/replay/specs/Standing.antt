@@ -1,8 +1,8 @@
--- What a player stands for: a history of its book, the pins of its lanes, and the flushes that it has begun.
+-- What a player stands for: a history of its book, the pins of its lanes, and the flushes and shrinks that it has begun.
 use Rattle.std.specs.Prelude.{◌≡◌, ℕ, ◌+◌, ◌<◌, ◌≤◌, ◌==◌, Bool, List, [], ◌++◌, length, map, find, count_by, Option, Some, None, option_map, Result, Ok, Err, IsFalse, All, slice_get}
 use Rattle.std.specs.declared.alloc.AllocError.{AllocError}
 use Rattle.adb_model.specs.State.{State}
-use Rattle.adb_model.specs.Storages.{is_filling, open_flush}
+use Rattle.adb_model.specs.Storages.{is_filling, open_flush, open_shrink}
 use Rattle.adb_model.specs.Call as machine
 use Rattle.adb_model.specs.History.{state_after}
 use Rattle.adb_model.specs.Seen.{call_of, reply_of}
@@ -12,6 +12,7 @@ use Rattle.accounts_index.specs.Index.{crowded_after}
 use Rattle.pass_pins.specs.Pins.{Pins}
 use Rattle.book_parts.specs.Parts.{Parts}
 use Rattle.book_parts.specs.Pins.{HoldsPins}
+use Rattle.book_parts.specs.Shrinks.{Copy, shrink_of, IsOpenCopy}
 use Rattle.book_parts.specs.Stands.{Stands}
 use Rattle.flush_plan.specs.Jobs.{Job, storage_of}
 
@@ -29,11 +30,12 @@ abbrev pub FewerLeft : machine.Call → machine.Reply → Parts → Parts → Ty
 FewerLeft call reply old new = (after : Option (List ℕ)) (most : ℕ) (key : List ℕ) → call ≡ machine.Reclaim after most → reply ≡ machine.Reclaimed key
     → length (crowded_after new.index (Some key)) < length (crowded_after old.index after)
 
--- what contracts see of a player: its book, the pins of lane 1, of lane 2, and so on, and the flushes in hand
+-- what contracts see of a player: its book, the pins of lane 1, of lane 2, and so on, and the flushes and the shrinks in hand
 pub record Lanes : Type 0 where
   pub book : Parts
   pub pins : List Pins
   pub jobs : List Job
+  pub shrinks : List Copy
 
 -- there are 64 lanes, and each has in hand what its pass has pinned
 pub record LanesHold (pins : List Pins) (m : State) : Type 0 where
@@ -44,16 +46,30 @@ pub record LanesHold (pins : List Pins) (m : State) : Type 0 where
 abbrev pub is_of : ℕ → Job → Bool
 is_of slot job = job.slot == slot
 
--- of each slot the flush in hand is the one that is open, and no two in hand are of one slot
-pub record JobsStand (jobs : List Job) (m : State) : Type 0 where
-  pub each : (slot : ℕ) → open_flush m slot ≡ option_map storage_of (find (is_of slot) jobs)
-  pub differ : (slot : ℕ) → count_by (is_of slot) jobs ≤ 1
+-- the shrink is of the slot
+abbrev pub is_shrink_of : ℕ → Copy → Bool
+is_shrink_of slot copy = copy.slot == slot
+
+-- of each slot the one in hand is the one that is open, and no two in hand are of one slot
+pub record AreOpen {X Y : Type 0} (slot_of : X → ℕ) (seen : X → Y) (in_hand : List X) (opened : ℕ → Option Y) : Type 0 where
+  pub each : (slot : ℕ) → opened slot ≡ option_map seen (find (λ x. slot_of x == slot) in_hand)
+  pub differ : (slot : ℕ) → count_by (λ x. slot_of x == slot) in_hand ≤ 1
+
+-- the flushes in hand are those that are open
+abbrev pub JobsStand : List Job → State → Type 0
+JobsStand jobs m = AreOpen (λ (job : Job). job.slot) storage_of jobs (open_flush m)
+
+-- the shrinks in hand are those that are open, each between its storages
+pub record ShrinksStand (shrinks : List Copy) (m : State) : Type 0 where
+  pub opened : AreOpen (λ (copy : Copy). copy.slot) shrink_of shrinks (open_shrink m)
+  pub copies : All (λ copy. IsOpenCopy copy m) shrinks
 
 -- the player stands for this history from this start
 pub record PlayerStands (p : Lanes) (start : State) (history : List machine.Event) : Type 0 where
   pub book : Stands p.book start history
   pub pins : LanesHold p.pins (state_after start history)
   pub jobs : JobsStand p.jobs (state_after start history)
+  pub shrinks : ShrinksStand p.shrinks (state_after start history)
 
 -- the player stands for some history
 pub record HasHistory (p : Lanes) : Type 0 where

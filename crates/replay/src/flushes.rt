@@ -4,8 +4,9 @@ ghost use Rattle.std.specs.Vec.{vec_capacity};
 ghost use Rattle.adb_model.specs.State.{State};
 ghost use Rattle.adb_model.specs.Call as machine;
 ghost use Rattle.pass_pins.specs.Pins.{Pins};
+ghost use Rattle.book_parts.specs.Shrinks.{Copy};
 ghost use Rattle.book_parts.specs.Stands.{with_event};
-ghost use Rattle.replay.specs.Standing.{PlayerStands, HasHistory, is_of, told};
+ghost use Rattle.replay.specs.Standing.{IsLane, PlayerStands, HasHistory, is_of, told};
 
 use crate::laws::flushes_go_on;
 use crate::replies::{flush_refused, refused};
@@ -34,8 +35,8 @@ fn put(jobs: &mut Vec<FlushJob>, job: FlushJob)
 
 /// Begins to flush a slot. After want of memory nothing has changed.
 pub fn begin(book: &mut Book, jobs: &mut Vec<FlushJob>, slot: Slot) -> Result<Reply, AllocError>
-    ensures { (pins : List Pins) (start : State) (h : List machine.Event) (pass : ℕ) → PlayerStands (record { book = book.old; pins = pins; jobs = jobs.old.items }) start h
-        → PlayerStands (record { book = book.new; pins = pins; jobs = jobs.new.items }) start (with_event h pass (machine.FlushBegin slot) (told result)) }
+    ensures { (pins : List Pins) (shrinks : List Copy) (start : State) (h : List machine.Event) (pass : ℕ) → IsLane pass → PlayerStands (record { book = book.old; pins = pins; jobs = jobs.old.items; shrinks = shrinks }) start h
+        → PlayerStands (record { book = book.new; pins = pins; jobs = jobs.new.items; shrinks = shrinks }) start (with_event h pass (machine.FlushBegin slot) (told result)) }
 {
     flushes_go_on();
     jobs.reserve(1)?;
@@ -63,9 +64,9 @@ pub fn end<R: AllocGlobal>(
 ) -> Result<Reply, AllocError>
     requires some_worker { 1 ≤ workers }
     requires few_workers { workers ≤ 16 }
-    requires some { (pins : List Pins) × HasHistory (record { book = book.old; pins = pins; jobs = jobs.old.items }) }
-    ensures { (pins : List Pins) (start : State) (h : List machine.Event) (pass : ℕ) → PlayerStands (record { book = book.old; pins = pins; jobs = jobs.old.items }) start h
-        → PlayerStands (record { book = book.new; pins = pins; jobs = jobs.new.items }) start (with_event h pass (machine.FlushEnd slot) (told result)) }
+    requires some { (pins : List Pins) × (shrinks : List Copy) × HasHistory (record { book = book.old; pins = pins; jobs = jobs.old.items; shrinks = shrinks }) }
+    ensures { (pins : List Pins) (shrinks : List Copy) (start : State) (h : List machine.Event) (pass : ℕ) → IsLane pass → PlayerStands (record { book = book.old; pins = pins; jobs = jobs.old.items; shrinks = shrinks }) start h
+        → PlayerStands (record { book = book.new; pins = pins; jobs = jobs.new.items; shrinks = shrinks }) start (with_event h pass (machine.FlushEnd slot) (told result)) }
 {
     flushes_go_on();
     let Some(place) = place_of(jobs, slot) else {
@@ -80,9 +81,9 @@ pub fn end<R: AllocGlobal>(
 
 /// Gives the flush of a slot up. Where there is none in hand, it is refused.
 pub fn abort(book: &mut Book, jobs: &mut Vec<FlushJob>, slot: Slot) -> Result<Reply, AllocError>
-    requires { (pins : List Pins) × HasHistory (record { book = book.old; pins = pins; jobs = jobs.old.items }) }
-    ensures { (pins : List Pins) (start : State) (h : List machine.Event) (pass : ℕ) → PlayerStands (record { book = book.old; pins = pins; jobs = jobs.old.items }) start h
-        → PlayerStands (record { book = book.new; pins = pins; jobs = jobs.new.items }) start (with_event h pass (machine.FlushAbort slot) (told result)) }
+    requires { (pins : List Pins) × (shrinks : List Copy) × HasHistory (record { book = book.old; pins = pins; jobs = jobs.old.items; shrinks = shrinks }) }
+    ensures { (pins : List Pins) (shrinks : List Copy) (start : State) (h : List machine.Event) (pass : ℕ) → IsLane pass → PlayerStands (record { book = book.old; pins = pins; jobs = jobs.old.items; shrinks = shrinks }) start h
+        → PlayerStands (record { book = book.new; pins = pins; jobs = jobs.new.items; shrinks = shrinks }) start (with_event h pass (machine.FlushAbort slot) (told result)) }
 {
     flushes_go_on();
     let Some(place) = place_of(jobs, slot) else {

@@ -6,14 +6,15 @@ ghost use Rattle.adb_model.specs.Seen.{call_of, reply_of};
 ghost use Rattle.book_parts.specs.Stands.{Stands, with_event};
 ghost use Rattle.replay.specs.Standing.{IsLane, IsOfFewKeys, IsQuiet, PlayerStands, HasHistory, HaveNoPins, HasMade, HasMadeFirst, FewerLeft, asked, told};
 
-use crate::flushes;
 use crate::laws::lanes_go_on;
 use crate::passes::{load, unpin};
 use crate::replies::{lease_ended, leased, purged, raised, reclaimed, rooted, stored};
+use crate::{flushes, shrinking};
 use adb_model::{Call, Reply};
 use book::Book;
 use flush_plan::FlushJob;
 use pass_pins::PassPins;
+use shrink_plan::ShrinkJob;
 use std::alloc::{AllocError, Global};
 use std::marker::Model;
 
@@ -28,6 +29,8 @@ pub struct Player {
     pins: Vec<PassPins>,
     // The flushes that have begun and are open.
     jobs: Vec<FlushJob>,
+    // The shrinks that have begun and are open.
+    shrinks: Vec<ShrinkJob>,
 }
 
 impl Model for Player {
@@ -35,9 +38,9 @@ impl Model for Player {
 
     ghost Value = { Lanes };
 
-    ghost view = { λ p. record { book = p.book; pins = p.pins.items; jobs = p.jobs.items } };
+    ghost view = { λ p. record { book = p.book; pins = p.pins.items; jobs = p.jobs.items; shrinks = p.shrinks.items } };
 
-    ghost invariant = { λ p. HasHistory (record { book = p.book; pins = p.pins.items; jobs = p.jobs.items }) };
+    ghost invariant = { λ p. HasHistory (record { book = p.book; pins = p.pins.items; jobs = p.jobs.items; shrinks = p.shrinks.items }) };
 }
 
 // Makes one event. So many workers fill the storage of a flush that ends.
@@ -46,6 +49,7 @@ fn step_filled<R: AllocGlobal>(
     book: &mut Book,
     pins: &mut Vec<PassPins>,
     jobs: &mut Vec<FlushJob>,
+    shrinks: &mut Vec<ShrinkJob>,
     lane: u64,
     call: &Call,
     workers: usize,
@@ -54,9 +58,9 @@ fn step_filled<R: AllocGlobal>(
     requires some_worker { 1 ≤ workers }
     requires few_workers { workers ≤ 16 }
     requires few_keys { IsOfFewKeys (call_of call.now) }
-    requires some { HasHistory (record { book = book.old; pins = pins.old.items; jobs = jobs.old.items }) }
-    ensures stands { (start : State) (h : List machine.Event) → PlayerStands (record { book = book.old; pins = pins.old.items; jobs = jobs.old.items }) start h
-        → PlayerStands (record { book = book.new; pins = pins.new.items; jobs = jobs.new.items }) start (with_event h lane (call_of call.now) (told result)) }
+    requires some { HasHistory (record { book = book.old; pins = pins.old.items; jobs = jobs.old.items; shrinks = shrinks.old.items }) }
+    ensures stands { (start : State) (h : List machine.Event) → PlayerStands (record { book = book.old; pins = pins.old.items; jobs = jobs.old.items; shrinks = shrinks.old.items }) start h
+        → PlayerStands (record { book = book.new; pins = pins.new.items; jobs = jobs.new.items; shrinks = shrinks.new.items }) start (with_event h lane (call_of call.now) (told result)) }
     ensures fewer { IfOk result (λ reply. FewerLeft (call_of call.now) (reply_of reply) book.old book.new) }
 {
     lanes_go_on();
@@ -73,6 +77,12 @@ fn step_filled<R: AllocGlobal>(
         Call::FlushAbort { slot } => flushes::abort(book, jobs, *slot),
         Call::Raise { upto } => raised(book.raise(*upto)),
         Call::Reclaim { after, most } => reclaimed(book.reclaim(after.as_ref(), *most)),
+        Call::ShrinkBegin { slot } => shrinking::begin(book, shrinks, *slot),
+        Call::ShrinkEnd { slot } => shrinking::end(rt, book, shrinks, *slot),
+        Call::ShrinkAbort { slot } => shrinking::abort(book, shrinks, *slot),
+        Call::Recycle => Ok(Reply::Recycled {
+            storages: book.recycle(),
+        }),
         Call::Stats => Ok(Reply::Counted {
             stats: book.stats(),
         }),
@@ -88,7 +98,13 @@ impl Player {
     {
         let pins = no_pins(alloc)?;
         let jobs = Vec::new(alloc);
-        Ok(Player { book, pins, jobs })
+        let shrinks = Vec::new(alloc);
+        Ok(Player {
+            book,
+            pins,
+            jobs,
+            shrinks,
+        })
     }
 
     /// A law: each player stands for some history.
@@ -135,6 +151,7 @@ impl Player {
             &mut self.book,
             &mut self.pins,
             &mut self.jobs,
+            &mut self.shrinks,
             lane,
             call,
             workers,

@@ -105,6 +105,9 @@ fn call_after(order: &Order, reply: &Reply) -> Option<Call>
         (Order::Flush { slot, .. }, Reply::FlushBegun { .. }) => Some(Call::FlushEnd {
             slot: *slot,
         }),
+        (Order::Shrink { slot }, Reply::ShrinkBegun { .. }) => Some(Call::ShrinkEnd {
+            slot: *slot,
+        }),
         (Order::Clean { .. }, Reply::Raised { .. }) => Some(Call::Reclaim {
             after: None,
             most: MOST_KEYS,
@@ -180,6 +183,10 @@ fn play_line<R: AllocGlobal, K: Sink>(
         }
         Order::Clean { upto } => {
             let call = Call::Raise { upto: *upto };
+            play_from(rt, player, line, &call, printer, sink)
+        }
+        Order::Shrink { slot } => {
+            let call = Call::ShrinkBegin { slot: *slot };
             play_from(rt, player, line, &call, printer, sink)
         }
     }

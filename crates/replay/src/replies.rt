@@ -1,12 +1,12 @@
 ghost use Rattle.std.specs.Prelude.{◌≡◌, Some, Err, option_map};
 ghost use Rattle.adb_model.specs.Seen.{reply_of};
-ghost use Rattle.book.specs.Replies.{store_reply, root_reply, purge_reply, load_reply, unpin_reply, lease_reply, end_lease_reply, raise_reply, reclaim_reply, flush_reply};
+ghost use Rattle.book.specs.Replies.{store_reply, root_reply, purge_reply, load_reply, unpin_reply, lease_reply, end_lease_reply, raise_reply, reclaim_reply, flush_reply, shrink_reply, shrink_end_reply};
 ghost use Rattle.replay.specs.Standing.{told};
 
 use adb_model::{Key, Refusal, Reply, Slot};
 use book::{
     FlushRefusal, LeaseRefusal, LoadRefusal, NotLeased, NotPinned, RaiseRefusal, RootRefusal,
-    Rooted, StoreRefusal,
+    Rooted, ShrinkDone, ShrinkRefusal, StoreRefusal,
 };
 use std::alloc::AllocError;
 
@@ -140,5 +140,38 @@ pub fn flush_refused(refusal: FlushRefusal) -> Result<Reply, AllocError>
         FlushRefusal::NoCell { limit } => refused(Refusal::NoCell { limit }),
         FlushRefusal::IdsSpent => refused(Refusal::IdsSpent),
         FlushRefusal::NoMemory => Err(AllocError),
+    }
+}
+
+/// The reply to a shrink that did not begin.
+pub fn shrink_refused(refusal: ShrinkRefusal) -> Result<Reply, AllocError>
+    ensures { told result ≡ shrink_reply (Err refusal) }
+{
+    match refusal {
+        ShrinkRefusal::NoStorage { slot } => refused(Refusal::NoStorage { slot }),
+        ShrinkRefusal::Shrinking { slot, id } => refused(Refusal::Shrinking { slot, id }),
+        ShrinkRefusal::NothingDead { slot } => refused(Refusal::NothingDead { slot }),
+        ShrinkRefusal::Full {
+            used,
+            wanted,
+            limit,
+        } => refused(Refusal::Full {
+            used,
+            wanted,
+            limit,
+        }),
+        ShrinkRefusal::NoCell { limit } => refused(Refusal::NoCell { limit }),
+        ShrinkRefusal::IdsSpent => refused(Refusal::IdsSpent),
+        ShrinkRefusal::NoMemory => Err(AllocError),
+    }
+}
+
+/// The reply to a shrink that ended.
+pub fn shrink_ended(done: ShrinkDone) -> Reply
+    ensures { reply_of result ≡ shrink_end_reply done }
+{
+    match done {
+        ShrinkDone::Installed => Reply::Done,
+        ShrinkDone::Superseded { slot, old } => Reply::Superseded { slot, old },
     }
 }

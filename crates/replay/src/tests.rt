@@ -42,30 +42,37 @@ fn any_account(alloc: Global, numbers: &mut Numbers) -> Result<Arc<Account>, Fai
     Ok(Arc::new(alloc, account)?)
 }
 
-// One call, most often a store or a load.
-fn any_call(alloc: Global, numbers: &mut Numbers) -> Result<Call, Fail>
+// One call, most often a store or a load. Stores are of the slots from a base on; what is done to roots is done to
+// those up to it.
+fn any_call(alloc: Global, numbers: &mut Numbers, base: Slot) -> Result<Call, Fail>
+    requires { base < 12 }
     ensures { IfOk result (λ call. IsOfFewKeys (call_of call)) }
 {
-    let slot = numbers.below(SLOTS);
+    let slot = base + numbers.below(4);
+    let root = numbers.below(base + 1);
     let key = key(numbers.below(KEYS));
     match numbers.below(64) {
-        0..=29 => Ok(Call::Store {
+        0..=23 => Ok(Call::Store {
             slot,
             key,
             account: any_account(alloc, numbers)?,
         }),
-        30 => Ok(Call::Root { slot: slot / 2 }),
-        31..=37 => Ok(Call::Purge { slot }),
-        38..=40 => Ok(Call::Stats),
-        41 | 42 => Ok(Call::FlushBegin { slot: slot / 2 }),
-        43 => Ok(Call::FlushEnd { slot: slot / 2 }),
-        44 => Ok(Call::FlushAbort { slot: slot / 2 }),
-        45 => Ok(Call::Unpin { id: 1 + slot / 4 }),
-        46 => Ok(Call::Raise { upto: slot / 2 }),
-        47 => Ok(Call::Reclaim {
-            after: Some(key).filter(|_| slot > 8),
+        24 | 25 => Ok(Call::Root { slot: base }),
+        26 => Ok(Call::Purge { slot }),
+        27 | 28 => Ok(Call::Stats),
+        29..=31 => Ok(Call::FlushBegin { slot: root }),
+        32..=34 => Ok(Call::FlushEnd { slot: root }),
+        35 => Ok(Call::FlushAbort { slot: root }),
+        36 => Ok(Call::Unpin { id: 1 + root }),
+        37 | 38 => Ok(Call::Raise { upto: root }),
+        39..=41 => Ok(Call::Reclaim {
+            after: Some(key).filter(|_| slot % 2 == 1),
             most: 2,
         }),
+        42..=44 => Ok(Call::ShrinkBegin { slot: root }),
+        45 | 46 => Ok(Call::ShrinkEnd { slot: root }),
+        47 => Ok(Call::ShrinkAbort { slot: root }),
+        48 => Ok(Call::Recycle),
         _ => {
             let ancestors = [numbers.below(SLOTS), slot];
             Ok(Call::Load {
@@ -104,7 +111,8 @@ fn told_by(reply: &Reply) -> Told {
         Reply::Purged { keys } => Told::Purged(*keys),
         Reply::NotFound => Told::NotFound,
         Reply::Found { slot, account, .. } => Told::Found(*slot, account.head().lamports),
-        Reply::FlushBegun { .. } => Told::Other,
+        Reply::FlushBegun { .. } | Reply::ShrinkBegun { .. } => Told::Other,
+        Reply::Superseded { .. } | Reply::Recycled { .. } => Told::Other,
         Reply::Raised { cleaned } => Told::Raised(*cleaned),
         Reply::Reclaimed { .. } | Reply::NothingLeft => Told::Other,
         Reply::Counted { stats } => Told::Present(stats.cached.wrapping_add(stats.named)),
@@ -216,16 +224,16 @@ impl Lists {
 #[test]
 fn a_player_answers_as_plain_lists_do(rt: HostRuntime) -> Result<(), Fail> {
     let alloc = rt.alloc();
-    let mut numbers = Numbers(7);
-    let mut player = Player::new(alloc, Book::new(alloc, 1000, 1)?)?;
+    let mut numbers = Numbers(1);
+    let mut player = Player::new(alloc, Book::new(alloc, 100_000, 1)?)?;
     let mut lists = Lists {
         stores: Vec::new(alloc),
         roots: Vec::new(alloc),
         cleaned: 0,
         reclaimed: false,
     };
-    for number in 0..600_u64 {
-        let call = any_call(alloc, &mut numbers)?;
+    for number in 0..1200_u64 {
+        let call = any_call(alloc, &mut numbers, number / 100)?;
         let reply = player.step(&rt, 1 + numbers.below(64), &call)?;
         let told = lists.step(&call)?;
         if told != Told::Other {

@@ -7,7 +7,7 @@ use Rattle.std.proofs.lemmas.Bool.{and_from, and_parts, cases_Bool, cond-true, c
 use Rattle.std.proofs.lemmas.Slice.Eq.{bytes_eq-Decides}
 use Rattle.adb_model.specs.Account.{Account, account_of}
 use Rattle.adb_model.specs.View.{View}
-use Rattle.adb_model.specs.Call.{Store, Root, Purge, Load, Unpin, Lease, EndLease, FlushBegin, FlushEnd, FlushAbort, Raise, Reclaim, Stats}
+use Rattle.adb_model.specs.Call.{Call, Store, Root, Purge, Load, Unpin, Lease, EndLease, FlushBegin, FlushEnd, FlushAbort, Raise, Reclaim, ShrinkBegin, ShrinkEnd, ShrinkAbort, Recycle, Stats}
 use Rattle.hex.proofs.OnLiterals.{hex_on_literals}
 use Rattle.text_fields.specs.Keys.{key_of}
 use Rattle.text_fields.specs.Numbers.{number_of}
@@ -19,9 +19,9 @@ use Rattle.script.specs.declared.line.Leading.TheVariants as leadings
 use Rattle.script.specs.Arguments.{view_of, max_root_of, flag_of, data_of, after_of}
 use Rattle.script.specs.Data.{IsData}
 use Rattle.script.specs.Grammar.{filled, store_defaults, flush_defaults, IsStore, IsOfNumber, IsOfView, IsUpTo, IsFlush, IsOfMaxRoot, IsAfter, IsReclaim, IsOrder, IsLine, AreLines, AreSaid, IsScript}
-use Rattle.script.specs.Reader.{◌>>=◌, good, argument, optional, fitting, ended, if_lane, lane_of, data_argument, store_of, only_number, number_order, if_up_to, count_argument, flush_of, reclaim_of, only_max_root, view_and_key_of, numbered_of, order_of, is_header, first_fault, lane_argument, line_of, said_by, and_then, lines_from, with_budget, unskipped, leading_of, headed, said_from, script_of}
+use Rattle.script.specs.Reader.{◌>>=◌, good, argument, optional, fitting, ended, if_lane, lane_of, data_argument, store_of, only_number, number_order, if_up_to, count_argument, flush_of, reclaim_of, only_max_root, view_and_key_of, alone, numbered_of, order_of, is_header, first_fault, lane_argument, line_of, said_by, and_then, lines_from, with_budget, unskipped, leading_of, headed, said_from, script_of}
 use Rattle.script.specs.Laws.{ReadsTheGrammar}
-use Rattle.script.specs.Said.{Order, Plain, Get, Flush, Clean, Line, Said}
+use Rattle.script.specs.Said.{Order, Plain, Get, Flush, Clean, Shrink, Line, Said}
 use Rattle.script.specs.Text.{flag_text}
 use Rattle.script.specs.Views.{IsView}
 use Rattle.script.specs.Words.{words, is_skipped}
@@ -389,16 +389,18 @@ store_again ws slot key account h =
     let bytes = further_again (codes "-") f.data_word [] h.bytes (data_argument 9) (data_word_again (codes "-") [] no_data) (data_word_again f.data_word h.bytes f.data_is) epoch.0 [] [] epoch.2 in
     rw (h.slot_is, h.key_is, h.lamports_is, owner.1, executable.1, epoch.1, bytes.1, none_left bytes.0 bytes.2) (ap (λ (a : Account). Ok (Plain (Store slot key a))) h.account_is)
 
-stats_read : (w : List ℕ) (ws : List (List ℕ)) (o : Order) → w ≡ codes "stats" → (ended 3 ws >>= λ done. Ok (Plain Stats)) ≡ Ok o → IsOrder (w ∷ ws) o
-stats_read w ws o is e =
-    let done = at_end 3 ws (λ x. Ok (Plain Stats)) o e in
-    let same : Plain Stats ≡ o = cc done.1 in
-    let words : w ∷ ws ≡ codes "stats" ∷ [] = ap₂ (λ (v : List ℕ) (r : List (List ℕ)). v ∷ r) is done.0 in
-    subst (λ (x : Order). IsOrder (w ∷ ws) x) same words
+-- a command without further words
+alone_read : (command : List ℕ) (call : Call) (w : List ℕ) (ws : List (List ℕ)) (o : Order) → (w ∷ ws ≡ command ∷ [] → IsOrder (w ∷ ws) (Plain call))
+    → w ≡ command → alone call ws ≡ Ok o → IsOrder (w ∷ ws) o
+alone_read command call w ws o holds is e =
+    let done = at_end 3 ws (λ x. Ok (Plain call)) o e in
+    let same : Plain call ≡ o = cc done.1 in
+    let words : w ∷ ws ≡ command ∷ [] = ap₂ (λ (v : List ℕ) (r : List (List ℕ)). v ∷ r) is done.0 in
+    subst (λ (x : Order). IsOrder (w ∷ ws) x) same (holds words)
 
-stats_again : (ended 3 [] >>= λ done. Ok (Plain Stats)) ≡ Ok (Plain Stats)
+alone_again : (call : Call) → alone call [] ≡ Ok (Plain call)
 unfolding ended
-stats_again = refl
+alone_again call = refl
 
 -- what follows a command, if it is this one
 pick : {A P : Type 0} (w c : List ℕ) (this others : Result A WordFault) (x : Result A WordFault) → cond (bytes_eq w c) this others ≡ x → (w ≡ c → this ≡ x → P) → (others ≡ x → P) → P
@@ -418,7 +420,11 @@ numbered_read w ws o e0 =
     pick w (codes "flush-abort") _ _ _ e5 (number_ordered (codes "flush-abort") (λ n. Plain (FlushAbort n)) w ws o (λ n h. h)) (λ e6.
     pick w (codes "raise") _ _ _ e6 (number_ordered (codes "raise") (λ n. Plain (Raise n)) w ws o (λ n h. h)) (λ e7.
     pick w (codes "clean") _ _ _ e7 (number_ordered (codes "clean") (λ n. Clean n) w ws o (λ n h. h)) (λ e8.
-    absurd (cc e8)))))))))
+    pick w (codes "shrink-begin") _ _ _ e8 (number_ordered (codes "shrink-begin") (λ n. Plain (ShrinkBegin n)) w ws o (λ n h. h)) (λ e9.
+    pick w (codes "shrink-end") _ _ _ e9 (number_ordered (codes "shrink-end") (λ n. Plain (ShrinkEnd n)) w ws o (λ n h. h)) (λ e10.
+    pick w (codes "shrink-abort") _ _ _ e10 (number_ordered (codes "shrink-abort") (λ n. Plain (ShrinkAbort n)) w ws o (λ n h. h)) (λ e11.
+    pick w (codes "shrink") _ _ _ e11 (number_ordered (codes "shrink") (λ n. Shrink n) w ws o (λ n h. h)) (λ e12.
+    absurd (cc e12)))))))))))))
 
 order_read : (ws : List (List ℕ)) (o : Order) → order_of ws ≡ Ok o → IsOrder ws o
 unfolding order_of
@@ -431,8 +437,9 @@ order_read (w ∷ ws) o e0 =
     pick w (codes "end-lease") _ _ _ e4 (max_root_ordered (codes "end-lease") (λ n. Plain (EndLease n)) w ws o (λ n h. h)) (λ e5.
     pick w (codes "flush") _ _ _ e5 (flush_read w ws o) (λ e6.
     pick w (codes "reclaim") _ _ _ e6 (reclaim_read w ws o) (λ e7.
-    pick w (codes "stats") _ _ _ e7 (stats_read w ws o) (λ e8.
-    numbered_read w ws o e8))))))))
+    pick w (codes "recycle") _ _ _ e7 (alone_read (codes "recycle") Recycle w ws o (λ h. h)) (λ e8.
+    pick w (codes "stats") _ _ _ e8 (alone_read (codes "stats") Stats w ws o (λ h. h)) (λ e9.
+    numbered_read w ws o e9)))))))))
 
 order_again : (ws : List (List ℕ)) (o : Order) → IsOrder ws o → order_of ws ≡ Ok o
 unfolding order_of numbered_of
@@ -448,10 +455,15 @@ order_again ws (Plain (FlushAbort slot)) h = ap order_of h.words ∙ rw (number_
 order_again ws (Plain (Raise upto)) h = ap order_of h.words ∙ rw (number_again 3 h.number_word upto h.number_is) refl
 order_again ws (Plain (Reclaim after most)) h = ap order_of h.words ∙ reclaim_again ws after most h
 order_again ws (Plain (Load view key)) h = ap order_of h.words ∙ rw (view_order_again (codes "load") ws view key h) refl
-order_again ws (Plain Stats) h = ap order_of h ∙ stats_again
+order_again ws (Plain (ShrinkBegin slot)) h = ap order_of h.words ∙ rw (number_again 3 h.number_word slot h.number_is) refl
+order_again ws (Plain (ShrinkEnd slot)) h = ap order_of h.words ∙ rw (number_again 3 h.number_word slot h.number_is) refl
+order_again ws (Plain (ShrinkAbort slot)) h = ap order_of h.words ∙ rw (number_again 3 h.number_word slot h.number_is) refl
+order_again ws (Plain Recycle) h = ap order_of h ∙ alone_again Recycle
+order_again ws (Plain Stats) h = ap order_of h ∙ alone_again Stats
 order_again ws (Get view key) h = ap order_of h.words ∙ rw (view_order_again (codes "get") ws view key h) refl
 order_again ws (Flush slot workers) h = ap order_of h.words ∙ flush_again ws slot workers h
 order_again ws (Clean upto) h = ap order_of h.words ∙ rw (number_again 3 h.number_word upto h.number_is) refl
+order_again ws (Shrink slot) h = ap order_of h.words ∙ rw (number_again 3 h.number_word slot h.number_is) refl
 order_again ws o h = absurd h
 
 -- ---- lines

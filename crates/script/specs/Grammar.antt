@@ -2,12 +2,12 @@
 use Rattle.std.specs.Prelude.{◌≡◌, ◌≤◌, ℕ, Bool, not, List, [], ◌∷◌, ◌++◌, length, drop, codes, filter, map, Option, Some, None}
 use Rattle.std.specs.Str.Lines.{lines}
 use Rattle.adb_model.specs.Account.{Account, account_of}
-use Rattle.adb_model.specs.Call.{Store, Root, Purge, Load, Unpin, Lease, EndLease, FlushBegin, FlushEnd, FlushAbort, Raise, Reclaim, Stats}
+use Rattle.adb_model.specs.Call.{Store, Root, Purge, Load, Unpin, Lease, EndLease, FlushBegin, FlushEnd, FlushAbort, Raise, Reclaim, ShrinkBegin, ShrinkEnd, ShrinkAbort, Recycle, Stats}
 use Rattle.adb_model.specs.View.{View}
 use Rattle.text_fields.specs.Keys.{key_of}
 use Rattle.text_fields.specs.Numbers.{number_of}
 use Rattle.script.specs.Data.{IsData}
-use Rattle.script.specs.Said.{Order, Plain, Get, Flush, Clean, Line, Said}
+use Rattle.script.specs.Said.{Order, Plain, Get, Flush, Clean, Shrink, Line, Said}
 use Rattle.script.specs.Text.{flag_text}
 use Rattle.script.specs.Views.{IsMaxRoot, IsView}
 use Rattle.script.specs.Words.{words, is_skipped}
@@ -115,10 +115,15 @@ IsOrder ws (Plain (FlushEnd slot)) = IsOfNumber (codes "flush-end") ws slot
 IsOrder ws (Plain (FlushAbort slot)) = IsOfNumber (codes "flush-abort") ws slot
 IsOrder ws (Plain (Raise upto)) = IsOfNumber (codes "raise") ws upto
 IsOrder ws (Plain (Reclaim after most)) = IsReclaim ws after most
+IsOrder ws (Plain (ShrinkBegin slot)) = IsOfNumber (codes "shrink-begin") ws slot
+IsOrder ws (Plain (ShrinkEnd slot)) = IsOfNumber (codes "shrink-end") ws slot
+IsOrder ws (Plain (ShrinkAbort slot)) = IsOfNumber (codes "shrink-abort") ws slot
+IsOrder ws (Plain Recycle) = ws ≡ codes "recycle" ∷ []
 IsOrder ws (Plain Stats) = ws ≡ codes "stats" ∷ []
 IsOrder ws (Get view key) = IsOfView (codes "get") ws view key
 IsOrder ws (Flush slot workers) = IsFlush ws slot workers
 IsOrder ws (Clean upto) = IsOfNumber (codes "clean") ws upto
+IsOrder ws (Shrink slot) = IsOfNumber (codes "shrink") ws slot
 IsOrder ws order = ⊥
 
 -- the words of a line: a lane from 1 to 64, and what it is to do

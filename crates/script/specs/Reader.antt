@@ -3,7 +3,7 @@ use Rattle.std.specs.Prelude.{ℕ, ◌+◌, nat_le, ◌&&◌, Bool, false, if◌
 use Rattle.std.specs.Str.{bytes_eq}
 use Rattle.std.specs.Str.Lines.{lines}
 use Rattle.adb_model.specs.Account.{account_of}
-use Rattle.adb_model.specs.Call.{Store, Root, Purge, Load, Unpin, Lease, EndLease, FlushBegin, FlushEnd, FlushAbort, Raise, Reclaim, Stats}
+use Rattle.adb_model.specs.Call.{Call, Store, Root, Purge, Load, Unpin, Lease, EndLease, FlushBegin, FlushEnd, FlushAbort, Raise, Reclaim, ShrinkBegin, ShrinkEnd, ShrinkAbort, Recycle, Stats}
 use Rattle.adb_model.specs.View.{View}
 use Rattle.text_fields.specs.Keys.{key_of}
 use Rattle.text_fields.specs.Numbers.{number_of}
@@ -14,7 +14,7 @@ use Rattle.script.specs.declared.fault.LineFault.{LineFault}
 use Rattle.script.specs.declared.line.Leading.{Leading}
 use Rattle.script.specs.declared.line.Leading.TheVariants as leadings
 use Rattle.script.specs.Arguments.{view_of, flag_of, data_of, max_root_of, after_of}
-use Rattle.script.specs.Said.{Order, Plain, Get, Flush, Clean, Line, Said}
+use Rattle.script.specs.Said.{Order, Plain, Get, Flush, Clean, Shrink, Line, Said}
 use Rattle.script.specs.Words.{words, is_skipped}
 
 -- the second step, where the first gave a value
@@ -121,6 +121,10 @@ only_max_root ws = do
   done ← ended 4 max_root.1
   Ok max_root.0
 
+-- the call of an order that has no further words
+abbrev pub alone : Call → List (List ℕ) → Result Order WordFault
+alone call ws = ended 3 ws >>= λ done. Ok (Plain call)
+
 -- the commands that have a number and no more
 unfoldable pub numbered_of : List ℕ → List (List ℕ) → Result Order WordFault
 numbered_of w ws =
@@ -132,6 +136,10 @@ numbered_of w ws =
     else if bytes_eq w (codes "flush-abort") then number_order (λ slot. Plain (FlushAbort slot)) ws
     else if bytes_eq w (codes "raise") then number_order (λ upto. Plain (Raise upto)) ws
     else if bytes_eq w (codes "clean") then number_order (λ upto. Clean upto) ws
+    else if bytes_eq w (codes "shrink-begin") then number_order (λ slot. Plain (ShrinkBegin slot)) ws
+    else if bytes_eq w (codes "shrink-end") then number_order (λ slot. Plain (ShrinkEnd slot)) ws
+    else if bytes_eq w (codes "shrink-abort") then number_order (λ slot. Plain (ShrinkAbort slot)) ws
+    else if bytes_eq w (codes "shrink") then number_order (λ slot. Shrink slot) ws
     else fault 2 kinds.Unknown
 
 unfoldable pub order_of : List (List ℕ) → Result Order WordFault
@@ -144,7 +152,8 @@ order_of (w ∷ ws) =
     else if bytes_eq w (codes "end-lease") then (only_max_root ws >>= λ n. Ok (Plain (EndLease n)))
     else if bytes_eq w (codes "flush") then flush_of ws
     else if bytes_eq w (codes "reclaim") then reclaim_of ws
-    else if bytes_eq w (codes "stats") then (ended 3 ws >>= λ done. Ok (Plain Stats))
+    else if bytes_eq w (codes "recycle") then alone Recycle ws
+    else if bytes_eq w (codes "stats") then alone Stats ws
     else numbered_of w ws
 
 -- the first word of a header

@@ -12,6 +12,7 @@ pub data Order : Type 0 where
   Get : (view : View) (key : List ℕ) → Order
   Flush : (slot workers : ℕ) → Order
   Clean : (upto : ℕ) → Order
+  Shrink : (slot : ℕ) → Order
 
 -- an order of a lane
 pub record Line : Type 0 where
@@ -29,6 +30,7 @@ order_played (Plain call) = machine.Plain call
 order_played (Get view key) = machine.Get view key
 order_played (Flush slot workers) = machine.Flush slot
 order_played (Clean upto) = machine.Clean upto
+order_played (Shrink slot) = machine.Shrink slot
 
 abbrev pub line_played : Line → machine.Line
 line_played l = record { lane = l.lane; order = order_played l.order }

@@ -19,6 +19,7 @@ order_seen (orders.Event call) = said.Plain (call_of call)
 order_seen (orders.Get view key) = said.Get view key.0
 order_seen (orders.Flush slot workers) = said.Flush slot workers
 order_seen (orders.Clean upto) = said.Clean upto
+order_seen (orders.Shrink slot) = said.Shrink slot
 
 abbrev pub line_seen : Line → said.Line
 line_seen l = record { lane = l.lane; order = order_seen l.order }

@@ -17,6 +17,8 @@ pub enum Order {
     Flush { slot: Slot, workers: usize },
     /// What is cleaned is raised up to a slot and, where that was done, all crowded keys are looked at.
     Clean { upto: Slot },
+    /// A shrink, begun and, where it began, ended.
+    Shrink { slot: Slot },
 }
 
 /// A line of a script: the lane that plays it, and what it asks for.

@@ -141,6 +141,18 @@ fn numbered(command: &[u8], line: &[u8]) -> Result<Order, ReadError>
     } else if command == b"clean".as_slice() {
         let upto = only_number(3, line)?;
         Ok(Order::Clean { upto })
+    } else if command == b"shrink-begin".as_slice() {
+        let slot = only_number(3, line)?;
+        Ok(Order::Event(Call::ShrinkBegin { slot }))
+    } else if command == b"shrink-end".as_slice() {
+        let slot = only_number(3, line)?;
+        Ok(Order::Event(Call::ShrinkEnd { slot }))
+    } else if command == b"shrink-abort".as_slice() {
+        let slot = only_number(3, line)?;
+        Ok(Order::Event(Call::ShrinkAbort { slot }))
+    } else if command == b"shrink".as_slice() {
+        let slot = only_number(3, line)?;
+        Ok(Order::Shrink { slot })
     } else {
         Err(fault(2, Kind::Unknown))
     }
@@ -171,6 +183,9 @@ fn order<'a>(alloc: Global, last: &mut LastView<'a>, line: &'a [u8]) -> Result<O
         flush(rest)
     } else if command == b"reclaim".as_slice() {
         reclaim(rest)
+    } else if command == b"recycle".as_slice() {
+        end(3, rest)?;
+        Ok(Order::Event(Call::Recycle))
     } else if command == b"stats".as_slice() {
         end(3, rest)?;
         Ok(Order::Event(Call::Stats))

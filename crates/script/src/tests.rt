@@ -21,6 +21,17 @@ fn reply_to(call: &Call) -> Reply {
             after: Some(key),
             ..
         } => Reply::Reclaimed { key: *key },
+        Call::ShrinkBegin { .. } => Reply::ShrinkBegun {
+            old: 1,
+            new: 3,
+            bytes: 272,
+        },
+        Call::ShrinkEnd { slot } => Reply::Superseded {
+            slot: *slot,
+            old: 1,
+        },
+        Call::ShrinkAbort { .. } => Reply::Done,
+        Call::Recycle => Reply::Recycled { storages: 2 },
         Call::Stats => Reply::Counted {
             stats: Stats {
                 cached: 1,
@@ -36,7 +47,7 @@ fn reply_to(call: &Call) -> Reply {
     }
 }
 
-// A script's header and lines as the journal has them, with these replies, and a flush or a clean as it was read;
+// A script's header and lines as the journal has them, with these replies, and a flush, a clean or a shrink as it was read;
 // none where the bytes are no script.
 fn journal(alloc: Global, bytes: &[u8]) -> Result<Option<String>, Fail> {
     let script = match parse(alloc, bytes) {
@@ -64,6 +75,10 @@ fn journal(alloc: Global, bytes: &[u8]) -> Result<Option<String>, Fail> {
             Order::Clean { upto } => {
                 let lane = line.lane;
                 format!(in alloc; "{lane} clean {upto}\n")?.into_bytes()
+            }
+            Order::Shrink { slot } => {
+                let lane = line.lane;
+                format!(in alloc; "{lane} shrink {slot}\n")?.into_bytes()
             }
         };
         all.push_str(String::from_utf8(text)?.as_str())?;
@@ -143,6 +158,11 @@ fn scripts_say_these_lines(rt: HostRuntime) -> Result<(), Fail> {
             "1 reclaim - 256\n1 reclaim 0aB000 001 = done",
             "1 reclaim - 256 = done\n1 reclaim 0ab0 1 = ok 0ab0\n",
         ),
+        (
+            "1 shrink-begin 02\n1 shrink-end 2 = ok\n2 shrink-abort 2\n1 shrink 002",
+            "1 shrink-begin 2 = ok 1 3 272\n1 shrink-end 2 = superseded 2 1\n2 shrink-abort 2 = ok\n1 shrink 2\n",
+        ),
+        ("1 recycle = ok 0\n", "1 recycle = ok 2\n"),
         (
             "064 stats",
             "64 stats = cached 1 filling 2 live 3 retired 4 named 5 rows 6 bytes 7 pins 18446744073709551615\n",
@@ -324,6 +344,21 @@ fn other_words_are_no_order_of_storages(rt: HostRuntime) -> Result<(), Fail> {
         ("1 reclaim - 0", 1, 4, Kind::Range),
         ("1 reclaim - 257 1", 1, 4, Kind::Range),
         ("1 reclaim - 256 1", 1, 5, Kind::Surplus),
+        ("1 shrink", 1, 3, Kind::Missing),
+        ("1 shrink x", 1, 3, Kind::Number),
+        ("1 shrink 2 2", 1, 4, Kind::Surplus),
+        ("1 shrink-begin", 1, 3, Kind::Missing),
+        ("1 shrink-begin -", 1, 3, Kind::Number),
+        ("1 shrink-begin 2 1", 1, 4, Kind::Surplus),
+        ("1 shrink-end = 2", 1, 3, Kind::Missing),
+        ("1 shrink-end 18446744073709551616", 1, 3, Kind::Number),
+        ("1 shrink-end 2 2", 1, 4, Kind::Surplus),
+        ("1 shrink-abort", 1, 3, Kind::Missing),
+        ("1 shrink-abort all", 1, 3, Kind::Number),
+        ("1 shrink-abort 2 2", 1, 4, Kind::Surplus),
+        ("1 shrink-", 1, 2, Kind::Unknown),
+        ("1 recycle 1", 1, 3, Kind::Surplus),
+        ("1 recycled", 1, 2, Kind::Unknown),
     ] {
         assert!(rt; has_fault(alloc, script, line, word, kind)?, "{script}");
     }
@@ -485,6 +520,19 @@ fn refusals_are_printed(rt: HostRuntime) -> Result<(), Fail> {
         (
             Refusal::Leased { upto: 8, least: 7 },
             "1 root 6 = leased 8 7\n",
+        ),
+        (Refusal::NoStorage { slot: 2 }, "1 root 6 = no-storage 2\n"),
+        (
+            Refusal::Shrinking { slot: 2, id: 3 },
+            "1 root 6 = shrinking 2 3\n",
+        ),
+        (
+            Refusal::NothingDead { slot: 4 },
+            "1 root 6 = nothing-dead 4\n",
+        ),
+        (
+            Refusal::NotShrinking { slot: 2 },
+            "1 root 6 = not-shrinking 2\n",
         ),
         (Refusal::NotRooted { slot: 7 }, "1 root 6 = not-rooted 7\n"),
         (

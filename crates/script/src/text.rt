@@ -126,6 +126,10 @@ fn push_call(
             push_after(text, after)?;
             write!(text, " {most}")
         }
+        Call::ShrinkBegin { slot } => write!(text, "shrink-begin {slot}"),
+        Call::ShrinkEnd { slot } => write!(text, "shrink-end {slot}"),
+        Call::ShrinkAbort { slot } => write!(text, "shrink-abort {slot}"),
+        Call::Recycle => text.push_str("recycle"),
         Call::Stats => text.push_str("stats"),
     }
 }
@@ -184,6 +188,10 @@ fn push_refusal(text: &mut String, refusal: Refusal) -> Result<(), AllocError>
             push_newest(text, newest)
         }
         Refusal::Leased { upto, least } => write!(text, "leased {upto} {least}"),
+        Refusal::NoStorage { slot } => write!(text, "no-storage {slot}"),
+        Refusal::Shrinking { slot, id } => write!(text, "shrinking {slot} {id}"),
+        Refusal::NothingDead { slot } => write!(text, "nothing-dead {slot}"),
+        Refusal::NotShrinking { slot } => write!(text, "not-shrinking {slot}"),
     }
 }
 
@@ -235,6 +243,9 @@ fn push_reply(text: &mut String, reply: &Reply) -> Result<(), AllocError>
             push_key(text, &key.0)
         }
         Reply::NothingLeft => text.push_str("done"),
+        Reply::ShrinkBegun { old, new, bytes } => write!(text, "ok {old} {new} {bytes}"),
+        Reply::Superseded { slot, old } => write!(text, "superseded {slot} {old}"),
+        Reply::Recycled { storages } => write!(text, "ok {storages}"),
         Reply::Counted { stats } => push_stats(text, stats),
     }
 }

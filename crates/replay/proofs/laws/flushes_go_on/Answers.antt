@@ -5,10 +5,14 @@ use Rattle.adb_model.specs.Flush.{filling_with, flush_rows}
 use Rattle.adb_model.specs.Call as machine
 use Rattle.adb_model.specs.Step.{step}
 use Rattle.adb_model.specs.History.{state_after}
-use Rattle.flush_plan.specs.Jobs.{storage_of, IsOpenJob}
-use Rattle.replay.proofs.Jobs.{job_open, job_slot, some_open, one_more, one_fewer, none_open}
-use Rattle.replay.proofs.GoingOn.{event, last_reply, with_jobs, none_before, with_none, refused_after}
+use Rattle.flush_plan.specs.Jobs.{Job, storage_of, IsOpenJob}
+use Rattle.replay.proofs.InHand.{is_open, of_slot, one_more, one_fewer, none_open, some_from}
+use Rattle.replay.proofs.Copies.{shrinks_as}
+use Rattle.replay.proofs.GoingOn.{event, is_pass, last_reply, made, none_before, with_none, flush_refused}
 use Rattle.replay.proofs.laws.flushes_go_on.Goals as goal
+
+abbrev slot_of : Job → ℕ
+slot_of job = job.slot
 
 pub returns : goal.returns
 returns c =
@@ -16,35 +20,46 @@ returns c =
     let legal = c.histories_go_on.ensures.legal in
     let told = last_reply c.histories_go_on.ensures.each_legal in
     let law = c.flushes_stay_open.ensures in
+    let stay = c.open_shrink_reflects.ensures.stays in
     record {
-      refused = λ p new start h pass slot refusal st after. refused_after on c.histories_go_on.ensures.each_legal law.refused p new start h pass slot st refusal after;
-      begun = λ p new job start h pass slot st same after opened.
+      refused = λ p new start h pass slot refusal is st after. flush_refused on stay c.histories_go_on.ensures.each_legal p new start h pass slot is st law.refused refusal after;
+      begun = λ p new job start h pass slot is st same after opened.
           let m = state_after start h in
-          let reply = told start h pass (machine.FlushBegin slot) (machine.FlushBegun job.id job.bytes) after.legal in
+          let call = machine.FlushBegin slot in
+          let reply = told start h pass call (machine.FlushBegun job.id job.bytes) after.legal in
           let stays = law.begun m st.book.sound pass slot job.id job.bytes reply in
-          with_jobs on start h pass (machine.FlushBegin slot) p new _ (machine.FlushBegun job.id job.bytes) (c.pins_are_own.ensures.same m pass (machine.FlushBegin slot) refl)
-          (one_more p.jobs m st.jobs job (step m pass (machine.FlushBegin slot)).0
-          (ap (open_flush m) same ∙ none_before m pass slot job.id job.bytes reply)
-          (subst (λ (n : State). IsOpenJob job n) (on start h (event pass (machine.FlushBegin slot) (machine.FlushBegun job.id job.bytes))) opened)
+          let now = subst (λ (n : State). IsOpenJob job n) (on start h (event pass call (machine.FlushBegun job.id job.bytes))) opened in
+          made on start h pass call p new _ p.shrinks (machine.FlushBegun job.id job.bytes) (c.pins_are_own.ensures.same m pass call refl)
+          (one_more slot_of storage_of p.jobs (open_flush m) st.jobs job (open_flush (step m pass call).0)
+          (ap (open_flush m) same ∙ none_before m pass slot job.id job.bytes reply) now
           (λ s apart. stays s ∙ ap (λ b. cond b (Some (filling_with m slot (flush_rows m slot))) (open_flush m s)) (ap (λ (k : ℕ). eqb k s) (sym same) ∙ apart)))
+          (shrinks_as stay m st.book.sound pass (is_pass pass is) call p.shrinks st.shrinks (c.shrinks_stay_open.ensures.same m pass call refl))
           st after;
       in_hand = λ p start h slot place job st at got.
           let m = state_after start h in
-          let opened = job_open p.jobs m st.jobs slot place at job got in
-          let same = job_slot p.jobs m st.jobs slot place at job got in
+          let opened = is_open slot_of storage_of p.jobs (open_flush m) st.jobs slot place at job got in
+          let same = of_slot slot_of storage_of p.jobs (open_flush m) st.jobs slot place at job got in
           (ap (open_flush m) same ∙ opened, same, (c.flush_end_stands.ensures.may p.book start h slot (storage_of job) st.book opened).1.differ);
-      ended = λ p new start h pass slot place st at after.
+      ended = λ p new start h pass slot place job is st at got after.
           let m = state_after start h in
-          with_jobs on start h pass (machine.FlushEnd slot) p new _ machine.Done (c.pins_are_own.ensures.same m pass (machine.FlushEnd slot) refl)
-          (one_fewer p.jobs m st.jobs slot place at (step m pass (machine.FlushEnd slot)).0 (law.ended m st.book.sound pass slot (some_open p.jobs m st.jobs slot place at)))
+          let call = machine.FlushEnd slot in
+          made on start h pass call p new _ p.shrinks machine.Done (c.pins_are_own.ensures.same m pass call refl)
+          (one_fewer slot_of storage_of p.jobs (open_flush m) st.jobs slot place at job got (open_flush (step m pass call).0)
+          (law.ended m st.book.sound pass slot (some_from (open_flush m slot) (storage_of job) (is_open slot_of storage_of p.jobs (open_flush m) st.jobs slot place at job got))))
+          (shrinks_as stay m st.book.sound pass (is_pass pass is) call p.shrinks st.shrinks (c.shrinks_stay_open.ensures.same m pass call refl))
           st after;
-      given_up = λ p new start h pass slot place st at after.
+      given_up = λ p new start h pass slot place job is st at got after.
           let m = state_after start h in
-          with_jobs on start h pass (machine.FlushAbort slot) p new _ machine.Done (c.pins_are_own.ensures.same m pass (machine.FlushAbort slot) refl)
-          (one_fewer p.jobs m st.jobs slot place at (step m pass (machine.FlushAbort slot)).0 (law.aborted m st.book.sound pass slot (some_open p.jobs m st.jobs slot place at)))
+          let call = machine.FlushAbort slot in
+          made on start h pass call p new _ p.shrinks machine.Done (c.pins_are_own.ensures.same m pass call refl)
+          (one_fewer slot_of storage_of p.jobs (open_flush m) st.jobs slot place at job got (open_flush (step m pass call).0)
+          (law.aborted m st.book.sound pass slot (some_from (open_flush m slot) (storage_of job) (is_open slot_of storage_of p.jobs (open_flush m) st.jobs slot place at job got))))
+          (shrinks_as stay m st.book.sound pass (is_pass pass is) call p.shrinks st.shrinks (c.shrinks_stay_open.ensures.same m pass call refl))
           st after;
       none_ended = λ p start h pass slot st at.
-          with_none on legal start h pass (machine.FlushEnd slot) (machine.NotFlushing slot) p (law.no_end (state_after start h) pass slot (none_open p.jobs (state_after start h) slot st.jobs at)) st;
+          let m = state_after start h in
+          with_none on legal start h pass (machine.FlushEnd slot) (machine.NotFlushing slot) p (law.no_end m pass slot (none_open slot_of storage_of p.jobs (open_flush m) slot st.jobs at)) st;
       none_given_up = λ p start h pass slot st at.
-          with_none on legal start h pass (machine.FlushAbort slot) (machine.NotFlushing slot) p (law.no_abort (state_after start h) pass slot (none_open p.jobs (state_after start h) slot st.jobs at)) st;
+          let m = state_after start h in
+          with_none on legal start h pass (machine.FlushAbort slot) (machine.NotFlushing slot) p (law.no_abort m pass slot (none_open slot_of storage_of p.jobs (open_flush m) slot st.jobs at)) st;
     }

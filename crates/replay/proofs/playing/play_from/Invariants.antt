@@ -1,4 +1,4 @@
-use Rattle.std.proofs.Common.{◌≡◌, List, Some, length}
+use Rattle.std.proofs.Common.{◌≡◌, ℕ, List, Option, Some, length}
 use Rattle.accounts_index.specs.Index.{crowded_after}
 use Rattle.adb_model.specs.State.{State}
 use Rattle.adb_model.specs.Call.{Event}
