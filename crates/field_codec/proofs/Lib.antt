@@ -1,7 +1,10 @@
 pub mod Alone
+pub mod Answering
 pub mod Entries
 pub mod Faults
+pub mod Listed
 pub mod Manifests
+pub mod Names
 pub mod Numbers
 pub mod Rising
 pub mod Sequences

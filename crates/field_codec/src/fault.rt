@@ -1,5 +1,10 @@
 // Why bytes are no manifest.
+ghost use Rattle.std.specs.Prelude.{Some};
+ghost use Rattle.field_codec.specs.FormFaults.{field_fault_text};
+
 use std::alloc::{AllocError, AllocFailed};
+use std::error::Error;
+use std::fmt;
 
 /// Why bytes are no manifest: the first fault from left to right.
 #[derive(Clone, Copy, Debug, PartialEq, Eq)]
@@ -41,3 +46,19 @@ impl<T: Drop> From<AllocFailed<T>> for FieldFault {
         FieldFault::NoMemory
     }
 }
+
+impl fmt::Display for FieldFault {
+    ghost output = { λ fault. Some (field_fault_text fault) };
+
+    fn fmt<W: fmt::Write>(&self, f: &mut fmt::Formatter<W>) -> fmt::Result {
+        match self {
+            FieldFault::Cut { at } => write!(f, "cut {at}"),
+            FieldFault::SlotTwice { slot } => write!(f, "slot-twice {slot}"),
+            FieldFault::Storages { slot, count } => write!(f, "storages {slot} {count}"),
+            FieldFault::Trailing { at } => write!(f, "trailing {at}"),
+            FieldFault::NoMemory => f.write_str("no memory"),
+        }
+    }
+}
+
+impl Error for FieldFault {}

@@ -1,7 +1,9 @@
 // What holds of all manifests. A law is a function that does nothing: its contract is the law, and a call
 // tells it to the caller's proof.
-ghost use Rattle.std.specs.Prelude.{◌≡◌, ◌+◌, ◌*◌, ◌<◌, ◌++◌, List, Ok, All, length, ℕ};
+ghost use Rattle.std.specs.Prelude.{◌≡◌, ◌≢◌, ◌+◌, ◌*◌, ◌<◌, ◌^◌, ◌++◌, List, Ok, All, true, length, ℕ};
+ghost use Rattle.dir_io.specs.Files.{has_prefix};
 ghost use Rattle.field_codec.specs.Manifest.{Content, IsManifest};
+ghost use Rattle.field_codec.specs.Paths as paths;
 ghost use Rattle.field_codec.specs.Reading.{Reads, manifest_in};
 ghost use Rattle.field_codec.specs.Written.{IsWritable, written_manifest};
 
@@ -30,4 +32,17 @@ pub fn written_manifests_are_read()
         → IsWritable content → IsWritable other
         → written_manifest content ++ rest ≡ written_manifest other ++ more
         → (content ≡ other) × (rest ≡ more) }
+{}
+
+/// The names of a snapshot's files begin with its own, and differ: those of different kinds, and those of the storages
+/// of two slots.
+pub fn names_of_files_differ()
+    ensures version { (name : List ℕ) → has_prefix (paths.prefix_of name) (paths.version_path name) ≡ true }
+    ensures manifest { (name : List ℕ) (slot : ℕ) → has_prefix (paths.prefix_of name) (paths.manifest_path name slot) ≡ true }
+    ensures storage { (name : List ℕ) (slot id : ℕ) → has_prefix (paths.prefix_of name) (paths.storage_path name slot id) ≡ true }
+    ensures version_alone { (name : List ℕ) (slot : ℕ) → paths.version_path name ≢ paths.manifest_path name slot }
+    ensures version_apart { (name : List ℕ) (slot id : ℕ) → paths.version_path name ≢ paths.storage_path name slot id }
+    ensures manifest_apart { (name : List ℕ) (slot other id : ℕ) → paths.manifest_path name slot ≢ paths.storage_path name other id }
+    ensures slots { (name : List ℕ) (slot id other other_id : ℕ) → slot < 2 ^ 64 → other < 2 ^ 64
+        → paths.storage_path name slot id ≡ paths.storage_path name other other_id → slot ≡ other }
 {}

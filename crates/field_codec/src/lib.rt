@@ -17,17 +17,29 @@
 //! it speaks of are read.
 #![tactic(auto)]
 
+mod checks;
 mod fault;
 mod fields;
+mod form;
+mod form_fault;
 mod laws;
+mod name;
 mod read;
 mod write;
 
 pub use fault::FieldFault;
 pub use fields::{FieldStorage, Fields};
-pub use laws::{manifests_are_read, manifests_have_one_reading, written_manifests_are_read};
+pub use form::{Form, FormFile, read_form};
+pub use form_fault::FormFault;
+pub use laws::{
+    manifests_are_read, manifests_have_one_reading, names_of_files_differ,
+    written_manifests_are_read,
+};
+pub use name::{is_name, manifest_path, prefix_of, status_path, storage_path, version_path};
 pub use read::decode_fields;
 pub use write::encode_fields;
 
+#[cfg(test)]
+mod form_tests;
 #[cfg(test)]
 mod tests;
