@@ -1,5 +1,5 @@
 // A sink in memory.
-ghost use Rattle.std.specs.Prelude.{◌≡◌, ◌⊎◌, ◌↔◌, ◌+◌, ◌-◌, ◌<◌, [], ◌++◌, Some, length, take, min, IsErr, IfOk, OnErr};
+ghost use Rattle.std.specs.Prelude.{◌≡◌, ◌⊎◌, ◌↔◌, ◌+◌, ◌-◌, ◌<◌, [], ◌++◌, Some, true, length, take, min, IsErr, IfOk, OnErr, OnOk, IsTrue};
 ghost use Rattle.std.specs.Io.{WritesAtMost};
 ghost use Rattle.std.specs.Io.KnownBytes.{WriteAppends, Keeps};
 ghost use Rattle.stream_io.specs.Stream.{HasCause};
@@ -56,6 +56,8 @@ impl Sink for MemSink {
 
     ghost faults = { λ s. s.calls.faults };
 
+    ghost flushed = { λ _. true };
+
     /// Takes as much as the piece and the room allow.
     fn write(&mut self, bytes: &[u8]) -> Result<usize, Failed>
         ensures bound { WritesAtMost result bytes.now }
@@ -80,6 +82,7 @@ impl Sink for MemSink {
 
     fn flush(&mut self) -> Result<(), Failed>
         ensures bytes { Keeps (Some self.old.taken) (Some self.new.taken) }
+        ensures flushed { OnOk result (IsTrue true) }
         ensures cause { HasCause self.old.calls.faults self.new.calls.faults result }
 
         ensures fails { IsErr result ↔ IsListed self.old.calls }

@@ -1,5 +1,5 @@
 // Where bytes go.
-ghost use Rattle.std.specs.Prelude.{◌<◌, List, ℕ, length, IfOk, OnOk, OnErr, IfSome};
+ghost use Rattle.std.specs.Prelude.{◌<◌, Bool, List, ℕ, length, IfOk, OnOk, OnErr, IfSome, IsTrue};
 ghost use Rattle.std.specs.declared.option.Option.{Option};
 ghost use Rattle.std.specs.Io.{WritesAtMost};
 ghost use Rattle.std.specs.Io.KnownBytes.{Appends, Keeps, WriteAppends};
@@ -15,6 +15,9 @@ pub trait Sink {
     /// How often it has failed. The count stops at 2^64 - 1.
     ghost faults: { Self → ℕ };
 
+    /// Whether it holds nothing back: all that it has taken was passed on.
+    ghost flushed: { Self → Bool };
+
     /// Takes some of the first bytes of a piece, and answers how many: at least one of a piece that isn't empty.
     /// After `Failed` none was taken.
     fn write(&mut self, bytes: &[u8]) -> Result<usize, Failed>
@@ -26,6 +29,7 @@ pub trait Sink {
     /// Passes on what is held back. Whatever it answers, what was taken stays taken.
     fn flush(&mut self) -> Result<(), Failed>
         ensures bytes { Keeps (taken self.old) (taken self.new) }
+        ensures flushed { OnOk result (IsTrue (flushed self.new)) }
         ensures cause { HasCause (faults self.old) (faults self.new) result };
 }
 

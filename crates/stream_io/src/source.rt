@@ -49,9 +49,10 @@ pub fn read_whole<S: Source>(
         (λ fault. (bytes : List ℕ) × Consumes (S.left source.old) (S.left source.new) bytes
         × TakenBefore fault most (length bytes)) }
 
-    // The count of faults never falls, and stands still where all was read.
+    // The count of faults never falls, and stands still where no read failed.
     ensures later { S.faults source.old ≤ S.faults source.new }
     ensures kept { OnOk result (S.faults source.new ≡ S.faults source.old) }
+    ensures unfailed { ¬ IsErrOf result ReadFault.Failed → S.faults source.new ≡ S.faults source.old }
     ensures failed { IsErrOf result ReadFault.Failed → Rose (S.faults source.old) (S.faults source.new) }
 {
     let mut bytes = Vec::new(alloc);

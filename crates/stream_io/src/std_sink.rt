@@ -1,5 +1,5 @@
 // A writer of std as a sink.
-ghost use Rattle.std.specs.Prelude.{◌≡◌, ◌<◌, length, IfOk};
+ghost use Rattle.std.specs.Prelude.{◌≡◌, ◌<◌, false, length, is_ok, IfOk, OnOk, IsTrue};
 ghost use Rattle.std.specs.Io.{WritesAtMost};
 ghost use Rattle.std.specs.Io.KnownBytes.{WriteAppends, Keeps};
 ghost use Rattle.stream_io.specs.Stream.{HasCause, faults_after};
@@ -14,23 +14,30 @@ use std::marker::Model;
 pub struct StdSink<W: Write> {
     writer: W,
     faults: u64,
+    // Whether the last call was a flush that was done.
+    is_flushed: bool,
 }
 
 impl<W: Write> Model for StdSink<W> {
-    ghost use Rattle.stream_io.specs.Adapters.{Counted};
+    ghost use Rattle.stream_io.specs.Adapters.{CountedSink};
 
-    ghost Value = { Counted W };
+    ghost Value = { CountedSink W };
 
-    ghost view = { λ s. record { inner = s.writer; faults = s.faults } };
+    ghost view = { λ s. record { inner = s.writer; faults = s.faults; flushed = s.is_flushed } };
 }
 
 impl<W: Write> StdSink<W> {
-    /// A sink over a writer, with no fault counted.
+    /// A sink over a writer, with no fault counted. What the writer holds back isn't known.
     pub fn new(writer: W) -> StdSink<W>
         ensures inner { result.inner ≡ writer }
         ensures faults { result.faults ≡ 0 }
+        ensures held { result.flushed ≡ false }
     {
-        StdSink { writer, faults: 0 }
+        StdSink {
+            writer,
+            faults: 0,
+            is_flushed: false,
+        }
     }
 }
 
@@ -38,6 +45,8 @@ impl<W: Write> Sink for StdSink<W> {
     ghost taken = { λ s. W.contents s.inner };
 
     ghost faults = { λ s. s.faults };
+
+    ghost flushed = { λ s. s.flushed };
 
     fn write(&mut self, bytes: &[u8]) -> Result<usize, Failed>
         ensures bound { WritesAtMost result bytes.now }
@@ -47,7 +56,9 @@ impl<W: Write> Sink for StdSink<W> {
 
         // It counts each error and each write that took nothing, and nothing else.
         ensures counted { self.new.faults ≡ faults_after self.old.faults result }
+        ensures held { self.new.flushed ≡ false }
     {
+        self.is_flushed = false;
         match self.writer.write(bytes) {
             Ok(count) if count > 0 || bytes.is_empty() => Ok(count),
             _ => Err(fail(&mut self.faults)),
@@ -56,10 +67,14 @@ impl<W: Write> Sink for StdSink<W> {
 
     fn flush(&mut self) -> Result<(), Failed>
         ensures bytes { Keeps (W.contents self.old.inner) (W.contents self.new.inner) }
+        ensures flushed { OnOk result (IsTrue self.new.flushed) }
         ensures cause { HasCause self.old.faults self.new.faults result }
         ensures counted { self.new.faults ≡ faults_after self.old.faults result }
+        ensures held { self.new.flushed ≡ is_ok result }
     {
-        match self.writer.flush() {
+        let flushed = self.writer.flush();
+        self.is_flushed = flushed.is_ok();
+        match flushed {
             Ok(()) => Ok(()),
             Err(_) => Err(fail(&mut self.faults)),
         }
