@@ -40,6 +40,8 @@ pub mod OpenedStores
 pub mod NoReturn
 pub mod FilterMaps
 pub mod LiveImages
+pub mod SnapStorages
+pub mod SnapsStay
 pub mod OpenedSound
 pub mod Reclamation
 pub mod OnceKeeps

@@ -70,7 +70,7 @@ module _ (m : State) (slot : ℕ) (key : List ℕ) where
   present_other s k f = ap (λ b. is_cached m s k || b) (named_other s k f)
 
   pub once_left : IsOnce m → IsOnce n
-  once_left o = record { named = AllPairs-filter (λ p q. p.slot ≡ q.slot → p.key ≢ q.key) (λ p. not (is_pair slot key p)) m.named o.named; rows = o.rows }
+  once_left o = record { named = AllPairs-filter (λ p q. p.slot ≡ q.slot → p.key ≢ q.key) (λ p. not (is_pair slot key p)) m.named o.named; rows = o.rows; snap = o.snap }
 
 module _ (m : State) (h : IsSoundMidway m) (slot : ℕ) (key : List ℕ) (named : IsTrue (is_named m slot key)) where
   abbrev after : State

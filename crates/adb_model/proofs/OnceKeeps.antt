@@ -35,6 +35,7 @@ use Rattle.adb_model.proofs.Phases.{slot_same, rows_same}
 use Rattle.adb_model.proofs.Outcomes.{none_of}
 use Rattle.adb_model.proofs.OpenedStores.{from_flat}
 use Rattle.adb_model.proofs.OpenedSound.{of_images}
+use Rattle.adb_model.proofs.SnapStorages.{ids_differ}
 
 pub pairs_append : {X : Type 0} (R : X → X → Type 0) (xs ys : List X) → AllPairs R xs → AllPairs R ys → ((x y : X) → Contains xs x → Contains ys y → R x y) → AllPairs R (xs ++ ys)
 pairs_append R [] ys ps qs cross = qs
@@ -57,7 +58,7 @@ pairs_once slot rows once = pairs_map Apart (λ (r : Row). let pair : Pair = rec
 
 module _ (m : State) (h : IsSound m) (o : IsOnce m) where
   named_dropped : (test : Pair → Bool) → IsOnce (without_names test m)
-  named_dropped test = record { named = AllPairs-filter Apart (λ p. not (test p)) m.named o.named; rows = o.rows }
+  named_dropped test = record { named = AllPairs-filter Apart (λ p. not (test p)) m.named o.named; rows = o.rows; snap = o.snap }
 
   once_flushed : (t : Storage) → end.IsOpen m t → IsOnce (flushed_with m t)
   once_flushed t is = record {
@@ -73,16 +74,18 @@ module _ (m : State) (h : IsSound m) (o : IsOnce m) where
           (or_parts _ _ (sym (any_push (λ x. eqb x u.slot) m.flushed t.slot) ∙ subst (λ n. IsFalse (among n (m.flushed ++ t.slot ∷ []))) (slot_same t.id Live u) un)).0,
           rows_same t.id Live u,
         )) o.rows;
+    snap = o.snap;
   }
 
 pub once_retired : (m : State) → IsOnce m → IsOnce (retire_unnamed m)
 once_retired m o = record {
   named = o.named;
   rows = rows_map m (retire_unnamed m) (retired m) (λ u fill un. (sym (reclaim.filling_same m u) ∙ fill, subst (λ n. IsFalse (among n m.flushed)) (reclaim.slot_same m u) un, reclaim.rows_same m u)) o.rows;
+  snap = o.snap;
 }
 
 pub once_dropped : (m : State) (test : Pair → Bool) → IsOnce m → IsOnce (without_names test m)
-once_dropped m test o = record { named = AllPairs-filter Apart (λ p. not (test p)) m.named o.named; rows = o.rows }
+once_dropped m test o = record { named = AllPairs-filter Apart (λ p. not (test p)) m.named o.named; rows = o.rows; snap = o.snap }
 
 once_reclaimed : (keys : List (List ℕ)) (m : State) → IsOnce m → IsOnce (reclaimed keys m)
 once_reclaimed keys m o =
@@ -95,39 +98,42 @@ once_shrinking : (m : State) (old : Storage) → IsTrue (among old.slot m.flushe
 once_shrinking m old flushed o = record {
   named = o.named;
   rows = All-push (RowsOnce m) m.storages (filling m old.slot (shrink_rows m old)) o.rows (λ f un. absurd (true≢false (sym flushed ∙ un)));
+  snap = o.snap;
 }
 
 next : (m : State) (pass : ℕ) → IsSound m → IsOnce m → HoldsNext IsOnce m pass
 next m pass h o = record {
-  store = λ slot key account e. record { named = o.named; rows = o.rows };
-  root = λ slot e. record { named = o.named; rows = o.rows };
-  purge = λ slot e. record { named = o.named; rows = o.rows };
+  store = λ slot key account e. record { named = o.named; rows = o.rows; snap = o.snap };
+  root = λ slot e. record { named = o.named; rows = o.rows; snap = o.snap };
+  purge = λ slot e. record { named = o.named; rows = o.rows; snap = o.snap };
   load = λ view key t e f. loaded (place_of m t.slot t.key);
-  unpin = λ id. record { named = o.named; rows = o.rows };
-  lease = λ max_root e. record { named = o.named; rows = o.rows };
-  end_lease = λ max_root. record { named = o.named; rows = o.rows };
+  unpin = λ id. record { named = o.named; rows = o.rows; snap = o.snap };
+  lease = λ max_root e. record { named = o.named; rows = o.rows; snap = o.snap };
+  end_lease = λ max_root. record { named = o.named; rows = o.rows; snap = o.snap };
   flush_begin = λ slot e. record {
     named = o.named;
     rows = All-push (RowsOnce m) m.storages (filling m slot (flush_rows m slot)) o.rows (λ f un. rows_differ m slot);
+    snap = o.snap;
   };
   flush_end = λ slot t e. once_flushed m h o t (end.opened m slot t h e).0;
-  flush_abort = λ slot t e. record { named = o.named; rows = All-filter (λ u. not (eqb u.id t.id)) (RowsOnce m) m.storages o.rows };
-  raise = λ upto e. record { named = o.named; rows = o.rows };
+  flush_abort = λ slot t e. record { named = o.named; rows = All-filter (λ u. not (eqb u.id t.id)) (RowsOnce m) m.storages o.rows; snap = o.snap };
+  raise = λ upto e. record { named = o.named; rows = o.rows; snap = o.snap };
   reclaim = λ keys. once_reclaimed keys m o;
   shrink_begin = λ slot old e f. once_shrinking m old (begin.flushed m old h (begin.may_shrink m slot old e (none_of (shrink_begin_refusals m slot old) f))) o;
   installed = λ slot g e t. record {
     named = o.named;
     rows = rows_map m (installed m g) (exchanged g) (λ u fill un. ((shrink.filling_before g u fill).0, subst (λ n. IsFalse (among n m.flushed)) (shrink.slot_same g u) un, shrink.rows_same g u)) o.rows;
+    snap = o.snap;
   };
-  dropped = λ slot g e. record { named = o.named; rows = All-filter (λ u. not (eqb u.id g.new)) (RowsOnce m) m.storages o.rows };
-  snap_begin = λ slot e. record { named = o.named; rows = o.rows };
-  snap_end = record { named = o.named; rows = o.rows };
-  recycle = record { named = o.named; rows = All-filter (λ t. not (is_retired t) || is_pinned m t.id) (RowsOnce m) m.storages o.rows };
+  dropped = λ slot g e. record { named = o.named; rows = All-filter (λ u. not (eqb u.id g.new)) (RowsOnce m) m.storages o.rows; snap = o.snap };
+  snap_begin = λ slot e. record { named = o.named; rows = o.rows; snap = ids_differ m h slot };
+  snap_end = record { named = o.named; rows = o.rows; snap = pairs_none (λ (a b : ℕ). a ≢ b) };
+  recycle = record { named = o.named; rows = All-filter (λ t. not (is_retired t) || is_pinned m t.id) (RowsOnce m) m.storages o.rows; snap = o.snap };
 }
   where
     loaded : (place : Place) → IsOnce (pinned m pass place)
     loaded Cached = o
-    loaded (InStorage id) = record { named = o.named; rows = o.rows }
+    loaded (InStorage id) = record { named = o.named; rows = o.rows; snap = o.snap }
 
 pub step_once : (m : State) (pass : ℕ) (c : Call) → IsSound m → IsOnce m → IsOnce (step m pass c).0
 step_once m pass c h o = through_step IsOnce m pass o (next m pass h o) c
@@ -137,7 +143,7 @@ history_once m [] passes h o = o
 history_once m (e ∷ events) passes h o = history_once (step m e.pass e.call).0 events passes.1 (step_keeps m e.pass e.call passes.0 h) (step_once m e.pass e.call h o)
 
 pub fresh_once : (budget id : ℕ) → IsOnce (fresh budget id)
-fresh_once budget id = record { named = pairs_none Apart; rows = All-nil (RowsOnce (fresh budget id)) }
+fresh_once budget id = record { named = pairs_none Apart; rows = All-nil (RowsOnce (fresh budget id)); snap = pairs_none (λ (a b : ℕ). a ≢ b) }
 
 image_pairs : (images : List Image) → AllPairs (λ i j. i.slot < j.slot) images → AllPairs Apart (flat_map pairs_of images)
 image_pairs [] up = pairs_none Apart
@@ -157,4 +163,5 @@ pub opened_once : (budget root : ℕ) (images : List Image) (more : List ℕ) �
 opened_once budget root images more may = record {
   named = image_pairs images may.rise;
   rows = of_images budget root images more may (RowsOnce (opened budget root images more)) (λ id i c lt f un. absurd (false≢true f));
+  snap = pairs_none (λ (a b : ℕ). a ≢ b);
 }

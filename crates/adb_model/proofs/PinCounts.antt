@@ -14,7 +14,8 @@ use Rattle.adb_model.specs.Call.{InStorage}
 use Rattle.adb_model.specs.Callers.{pinned, is_pin, unpinned}
 use Rattle.adb_model.specs.Stats.{counts_of}
 use Rattle.adb_model.specs.Sound.{IsSound, is_settled}
-use Rattle.adb_model.proofs.Members.{member, any_weaker, into_map, from_map}
+use Rattle.adb_model.specs.Once.{IsOnce, snap_ids}
+use Rattle.adb_model.proofs.Members.{member, any_weaker, found, among_at, contains_none, into_map, from_map}
 use Rattle.adb_model.proofs.Pairs.{pairs_map}
 use Rattle.adb_model.proofs.Taken.{count_push}
 use Rattle.adb_model.proofs.OneChanged.{one_if, none_counted, length_sum}
@@ -148,5 +149,23 @@ module _ (m : State) (h : IsSound m) where
       subst (Contains (map (λ (t : Storage). t.slot) m.storages)) (o.1.slot ∙ g.2) (into_map (λ (t : Storage). t.slot) m.storages o.0 o.1.there)) in
       omega (arith, slots, length-map m.shrinks (λ (g : Shrink). g.slot), length-map m.storages (λ (t : Storage). t.slot))
 
-  pub few_without_snap : m.snap ≡ None → (counts_of m).pins ≤ 5242880
-  few_without_snap e = omega (arith, few_pins, few_shrinks, h.limits.count, ap (λ o. option_map_or (λ (n : Snap). length n.ids) o 0) e)
+  -- each storage of the snapshot is another one, and is there
+  few_in_snap : IsOnce m → length (snap_ids m) ≤ length m.storages
+  few_in_snap o =
+      let ids = within eqb eqb-true (λ s. eq-eqb s s refl) (snap_ids m) (map (λ (t : Storage). t.id) m.storages) o.snap
+      (λ id c.
+      let a = settled_found id (h.ids.snap id (in_ids m.snap id c)) in
+      let f = found (λ (u : Storage). eqb u.id id) m.storages a.0 a.1 in
+      subst (Contains (map (λ (t : Storage). t.id) m.storages)) (eqb-true a.0.id id f.1) (into_map (λ (t : Storage). t.id) m.storages a.0 f.0)) in
+      omega (arith, ids, length-map m.storages (λ (t : Storage). t.id))
+    where
+      in_ids : (o : Option Snap) (id : ℕ) → Contains (option_map_or (λ n. n.ids) o []) id → IsTrue (option_map_or (λ n. among id n.ids) o false)
+      in_ids None id c = absurd (contains_none id c)
+      in_ids (Some n) id c = among_at id n.ids c
+
+  pub few_counted : IsOnce m → (counts_of m).pins ≤ 6291456
+  few_counted o = omega (arith, few_pins, few_shrinks, few_in_snap o, h.limits.count, as_long m.snap)
+    where
+      as_long : (s : Option Snap) → option_map_or (λ n. length n.ids) s 0 ≡ length (option_map_or (λ n. n.ids) s [])
+      as_long None = refl
+      as_long (Some n) = refl

@@ -37,7 +37,7 @@ pub rising_rises : (xs : List ℕ) → AllPairs (λ a b. a < b) (rising nat_cmp 
 rising_rises xs i j d lt within = less_from _ _ (ordered.rising_rises nat_cmp nat_cmp_total xs i j d lt within)
 
 -- two rising lists with the same members are one
-one_rise : (xs ys : List ℕ) → Rise xs → Rise ys → ((z : ℕ) → Contains xs z → Contains ys z) → ((z : ℕ) → Contains ys z → Contains xs z) → xs ≡ ys
+pub one_rise : (xs ys : List ℕ) → Rise xs → Rise ys → ((z : ℕ) → Contains xs z → Contains ys z) → ((z : ℕ) → Contains ys z → Contains xs z) → xs ≡ ys
 one_rise [] [] up vp into from = refl
 one_rise [] (y ∷ ys) up vp into from = absurd (contains_none y (from y (contains_here y ys)))
 one_rise (x ∷ xs) [] up vp into from = absurd (contains_none x (into x (contains_here x xs)))

@@ -31,7 +31,7 @@ with_id_gone m t id = by (eqb t.id id) refl
     by false f = find_left (λ (u : Storage). eqb u.id id) (λ u. not (eqb u.id t.id)) m.storages (λ u c x. not_from_false _ (ne_eqb u.id t.id (λ same. eqb-false t.id id f (sym same ∙ eqb-true u.id id x))))
 
 pub once_left : (m : State) (t : Storage) → IsOnce m → IsOnce (without_storage m t)
-once_left m t o = record { named = o.named; rows = All-filter (λ u. not (eqb u.id t.id)) (RowsOnce m) m.storages o.rows }
+once_left m t o = record { named = o.named; rows = All-filter (λ u. not (eqb u.id t.id)) (RowsOnce m) m.storages o.rows; snap = o.snap }
 
 pub fills_left : (m : State) (t : Storage) → FillsOnce m → FillsOnce (without_storage m t)
 fills_left m t o = All-filter (λ u. not (eqb u.id t.id)) OnceFilling m.storages o

@@ -58,6 +58,7 @@ module _ (m : State) (t : Storage) where
   once_with_retired o = record {
     named = o.named;
     rows = rows_map m changed (in_phase t.id Retired) (λ u fill un. (filled u fill, subst (λ q. IsFalse (list_any (λ x. eqb x q) m.flushed)) (slot_same t.id Retired u) un, rows_same t.id Retired u)) o.rows;
+    snap = o.snap;
   }
     where
       filled : (u : Storage) → IsTrue (is_filling (in_phase t.id Retired u)) → IsTrue (is_filling u)

@@ -27,6 +27,7 @@ pub mod Cache
 pub mod Laws
 pub mod Shrinking
 pub mod Recycling
+pub mod Snapping
 pub mod Inside
 pub mod Seen
 pub mod RowBytes

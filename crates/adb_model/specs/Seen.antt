@@ -55,6 +55,8 @@ call_of (calls.Reclaim after most) = machine.Reclaim (option_map (λ k. k.0) aft
 call_of (calls.ShrinkBegin slot) = machine.ShrinkBegin slot
 call_of (calls.ShrinkEnd slot) = machine.ShrinkEnd slot
 call_of (calls.ShrinkAbort slot) = machine.ShrinkAbort slot
+call_of (calls.SnapBegin slot) = machine.SnapBegin slot
+call_of (calls.SnapEnd slot) = machine.SnapEnd slot
 call_of calls.Recycle = machine.Recycle
 call_of calls.Stats = machine.Stats
 
@@ -85,6 +87,11 @@ refusal_of (refusals.NoStorage slot) = machine.NoStorage slot
 refusal_of (refusals.Shrinking slot id) = machine.Shrinking slot id
 refusal_of (refusals.NothingDead slot) = machine.NothingDead slot
 refusal_of (refusals.NotShrinking slot) = machine.NotShrinking slot
+refusal_of (refusals.SnapOpen slot) = machine.SnapOpen slot
+refusal_of (refusals.NotRoot slot) = machine.NotRoot slot
+refusal_of (refusals.SnapTooOld slot cleaned) = machine.SnapTooOld slot cleaned
+refusal_of (refusals.Unflushed slot) = machine.Unflushed slot
+refusal_of (refusals.NotSnapping slot) = machine.NotSnapping slot
 
 -- the machine's counts
 abbrev pub counts_of : Stats → machine.Counts
@@ -112,6 +119,7 @@ reply_of (replies.Reclaimed key) = machine.Reclaimed key.0
 reply_of replies.NothingLeft = machine.NothingLeft
 reply_of (replies.ShrinkBegun old new bytes) = machine.ShrinkBegun old new bytes
 reply_of (replies.Superseded slot old) = machine.Superseded slot old
+reply_of (replies.SnapBegun storages) = machine.SnapBegun storages
 reply_of (replies.Recycled storages) = machine.Recycled storages
 reply_of (replies.Counted stats) = machine.Counted (counts_of stats)
 

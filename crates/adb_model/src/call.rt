@@ -73,6 +73,14 @@ pub enum Call {
     ShrinkAbort {
         slot: Slot,
     },
+    /// Begin a snapshot of a root: take hold of the storages that it is written from.
+    SnapBegin {
+        slot: Slot,
+    },
+    /// End a snapshot: let go of its storages.
+    SnapEnd {
+        slot: Slot,
+    },
     /// Free the storages that are no longer of use and that nobody pins.
     Recycle,
     /// Count what the store has.
@@ -131,6 +139,16 @@ pub enum Refusal {
     NothingDead { slot: Slot },
     /// The end of a shrink that isn't open, or an abort of one.
     NotShrinking { slot: Slot },
+    /// A snapshot while the one of this slot is open.
+    SnapOpen { slot: Slot },
+    /// A snapshot of a slot that is no root.
+    NotRoot { slot: Slot },
+    /// A snapshot of a slot below the one up to which was cleaned.
+    SnapTooOld { slot: Slot, cleaned: Slot },
+    /// A snapshot while this root, the least of those up to its slot, has stores that are in no storage yet.
+    Unflushed { slot: Slot },
+    /// The end of a snapshot that isn't open.
+    NotSnapping { slot: Slot },
 }
 
 /// What the store has at one time.
@@ -201,6 +219,10 @@ pub enum Reply {
         slot: Slot,
         old: u64,
     },
+    /// A snapshot began, of so many storages.
+    SnapBegun {
+        storages: u64,
+    },
     /// So many storages are free again.
     Recycled {
         storages: u64,
@@ -256,6 +278,8 @@ impl Call {
             Call::ShrinkBegin { slot } => Ok(Call::ShrinkBegin { slot: *slot }),
             Call::ShrinkEnd { slot } => Ok(Call::ShrinkEnd { slot: *slot }),
             Call::ShrinkAbort { slot } => Ok(Call::ShrinkAbort { slot: *slot }),
+            Call::SnapBegin { slot } => Ok(Call::SnapBegin { slot: *slot }),
+            Call::SnapEnd { slot } => Ok(Call::SnapEnd { slot: *slot }),
             Call::Recycle => Ok(Call::Recycle),
             Call::Stats => Ok(Call::Stats),
         }

@@ -81,7 +81,8 @@ pub fn stored_places_stand()
         → ((step m pass (machine.ShrinkEnd slot)).1 ≡ machine.Done) ↔ IsTrue (is_current m h) }
 {}
 
-/// A law: no pair is named twice, in any state that is reached, so that counting names counts pairs.
+/// A law: no pair is named twice, in any state that is reached, so that counting names counts pairs; and no
+/// snapshot has a storage twice.
 pub fn named_pairs_stand_once()
     ensures start { (budget id : ℕ) → IsOnce (fresh budget id) }
     ensures open { (budget root : ℕ) (images : List Image) (more : List ℕ) → MayOpen budget images → IsOnce (opened budget root images more) }

@@ -17,6 +17,7 @@ mod pinning;
 mod plain;
 mod recycling;
 mod shrinking;
+mod snapping;
 mod view;
 
 pub use account::{Account, Head, MAX_DATA_LEN, TooLong};
@@ -46,6 +47,7 @@ pub use shrinking::{
     filling_rows_differ, open_shrinks_stand, shrinks_are_given_up, shrinks_begin,
     shrinks_copy_named_rows, shrinks_install, shrinks_stay_open,
 };
+pub use snapping::{snaps_begin, snaps_stay_open};
 pub use view::{MAX_ANCESTORS, View, ViewFault};
 
 #[cfg(test)]

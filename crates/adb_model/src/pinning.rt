@@ -6,6 +6,7 @@ ghost use Rattle.adb_model.specs.Call.{InStorage};
 ghost use Rattle.adb_model.specs.Callers.{pinned, is_pin, unpinned};
 ghost use Rattle.adb_model.specs.Stats.{counts_of};
 ghost use Rattle.adb_model.specs.Sound.{IsSound};
+ghost use Rattle.adb_model.specs.Once.{IsOnce};
 
 /// A law: where a pass pins a storage, the storage is pinned once more, the pass has one pin more, and it has
 /// one more on this storage; where it lets go, each is one fewer. Nothing else changes of how often storages
@@ -29,7 +30,7 @@ pub fn pins_follow()
 
 /// A law: a storage is pinned exactly where a pin of it is counted, and in a sound state a pinned storage is
 /// there and has been filled. There are at most 4,194,304 pins of passes, and as many shrinks as storages
-/// at most.
+/// at most, and a snapshot of as many, so there are at most 6,291,456 pins of every kind.
 pub fn pinned_storages_stand()
     ensures own { (m : State) (pass id : ℕ) → IsTrue (list_any (is_pin pass id) m.pins) → IsTrue (is_pinned m id) }
     ensures counted { (m : State) (id : ℕ) → is_pinned m id ≡ nat_lt 0 (pin_count m id) }
@@ -38,5 +39,5 @@ pub fn pinned_storages_stand()
     ensures filled { (m : State) → IsSound m → (id : ℕ) → IsTrue (is_pinned m id) → (t : Storage) → storage_with m id ≡ Some t → IsFalse (is_filling t) }
     ensures few { (m : State) → IsSound m → length m.pins ≤ 4194304 }
     ensures few_shrinks { (m : State) → IsSound m → length m.shrinks ≤ length m.storages }
-    ensures few_without_snap { (m : State) → IsSound m → m.snap ≡ None → (counts_of m).pins ≤ 5242880 }
+    ensures few_counted { (m : State) → IsSound m → IsOnce m → (counts_of m).pins ≤ 6291456 }
 {}

@@ -171,6 +171,10 @@ fn a_copied_call_shares_its_account(rt: HostRuntime) -> Result<(), Fail> {
     assert!(rt; matches!(&end, Call::ShrinkEnd { slot: 5 }));
     let abort = Call::ShrinkAbort { slot: 5 }.try_copy(alloc)?;
     assert!(rt; matches!(&abort, Call::ShrinkAbort { slot: 5 }));
+    let snap = Call::SnapBegin { slot: 5 }.try_copy(alloc)?;
+    assert!(rt; matches!(&snap, Call::SnapBegin { slot: 5 }));
+    let end = Call::SnapEnd { slot: 5 }.try_copy(alloc)?;
+    assert!(rt; matches!(&end, Call::SnapEnd { slot: 5 }));
     let recycle = Call::Recycle.try_copy(alloc)?;
     assert!(rt; matches!(&recycle, Call::Recycle));
     let stats = Call::Stats.try_copy(alloc)?;

@@ -1,4 +1,4 @@
-use Rattle.adb_model.proofs.PinCounts.{own_pins, pinned_some, some_pins, pinned_there, pinned_filled, few_pins, few_shrinks, few_without_snap}
+use Rattle.adb_model.proofs.PinCounts.{own_pins, pinned_some, some_pins, pinned_there, pinned_filled, few_pins, few_shrinks, few_counted}
 use Rattle.adb_model.proofs.pinning.pinned_storages_stand.Goals as goal
 
 pub returns-clause-own : goal.returns-clause-own
@@ -22,5 +22,5 @@ returns-clause-few c = few_pins
 pub returns-clause-few_shrinks : goal.returns-clause-few_shrinks
 returns-clause-few_shrinks c = few_shrinks
 
-pub returns-clause-few_without_snap : goal.returns-clause-few_without_snap
-returns-clause-few_without_snap c = few_without_snap
+pub returns-clause-few_counted : goal.returns-clause-few_counted
+returns-clause-few_counted c = few_counted
