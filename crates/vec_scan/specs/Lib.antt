@@ -4,4 +4,5 @@ pub mod Gaps
 pub mod Image
 pub mod Inside
 pub mod Seal
+pub mod Shown
 pub mod Written
