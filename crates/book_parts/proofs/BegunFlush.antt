@@ -131,5 +131,5 @@ module _ (p : Parts) (m : State) (slot cell : ℕ) (written : List Row) (index :
     counts = counted;
     limit = r.limit;
     next_id = ap (λ x. x + 1) r.next_id;
-    no_snap = r.no_snap;
+    snap = r.snap;
   }

@@ -176,5 +176,5 @@ module _ (p : Parts) (m : State) (slot from cell : ℕ) (old : Storage) (slots :
     counts = counted;
     limit = r.limit;
     next_id = ap (λ (i : ℕ). i + 1) r.next_id;
-    no_snap = r.no_snap;
+    snap = r.snap;
   }

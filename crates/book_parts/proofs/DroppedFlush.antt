@@ -137,5 +137,5 @@ module _ (p : Parts) (m : State) (slot cell : ℕ) (t : Storage) (index : Index)
     counts = counted;
     limit = r.limit;
     next_id = r.next_id;
-    no_snap = r.no_snap;
+    snap = r.snap;
   }

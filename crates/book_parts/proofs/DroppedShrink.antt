@@ -178,5 +178,5 @@ module _ (p : Parts) (m : State) (copy : Copy) (from cell : ℕ) (slots : Slots)
     counts = counted;
     limit = r.limit;
     next_id = r.next_id;
-    no_snap = r.no_snap;
+    snap = r.snap;
   }

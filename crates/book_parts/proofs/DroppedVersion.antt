@@ -203,5 +203,5 @@ module _ (p : Parts) (m : State) (slot : ℕ) (key : List ℕ) (h : IsSoundMidwa
       counts = counted;
       limit = r.limit;
       next_id = r.next_id;
-      no_snap = r.no_snap;
+      snap = r.snap;
     }

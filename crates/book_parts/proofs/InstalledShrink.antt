@@ -416,7 +416,7 @@ module _ (p : Parts) (m : State) (copy : Copy) (from cell : ℕ) (image : Shared
     counts = counted;
     limit = r.limit;
     next_id = r.next_id;
-    no_snap = r.no_snap;
+    snap = r.snap;
   }
 
   -- and so do those whose table is what the three changes of cells make

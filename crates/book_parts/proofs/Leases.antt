@@ -28,7 +28,7 @@ reflects_leases p m leases r = record {
   counts = r.counts;
   limit = r.limit;
   next_id = r.next_id;
-  no_snap = r.no_snap;
+  snap = r.snap;
 }
 
 pub reflects_cleaned : (p : Parts) (m : State) (cleaned : ℕ) → Reflects p m → Reflects (record p { cleaned = cleaned }) (record m { cleaned = cleaned })
@@ -46,7 +46,7 @@ reflects_cleaned p m cleaned r = record {
   counts = r.counts;
   limit = r.limit;
   next_id = r.next_id;
-  no_snap = r.no_snap;
+  snap = r.snap;
 }
 
 -- a reply, and no change

@@ -11,6 +11,9 @@ mod NextKeys
 mod PinsInHand
 mod Repinned
 mod ShrinkSteps
+mod SnapImages
+mod SnapPins
+mod SnapSteps
 mod Steps
 mod StoredLoads
 mod Unpins

@@ -111,7 +111,7 @@ module _ (p : Parts) (index : Index) (cache : Cache) (m : State) (slot : ℕ) (k
         ∙ ap (with_cached (counts_of after).cached) r.counts;
     limit = r.limit;
     next_id = r.next_id;
-    no_snap = r.no_snap;
+    snap = r.snap;
   }
     where
       left : (k : List ℕ) (s : ℕ) (t : Bool) (cell offset : ℕ) → indexed index s k ≡ Some (t, Stored cell offset) → here s k ≡ false
@@ -147,7 +147,7 @@ reflects_root p m roots r = record {
   counts = r.counts;
   limit = r.limit;
   next_id = r.next_id;
-  no_snap = r.no_snap;
+  snap = r.snap;
 }
 
 -- ---- a slot is emptied
@@ -183,7 +183,7 @@ module _ (p : Parts) (index : Index) (cache : Cache) (m : State) (slot keys : �
         counts = ap (λ n. with_cached n (counts_in p)) (fewer_cached keys_is) ∙ ap (with_cached (counts_of emptied).cached) r.counts;
         limit = r.limit;
         next_id = r.next_id;
-        no_snap = r.no_snap;
+        snap = r.snap;
       }
     where
       fewer_cached : keys ≡ length (keys_of m slot) → total cache ≡ (counts_of emptied).cached
@@ -284,7 +284,7 @@ reflects_undone p index cache m same same_cache r = record {
   counts = ap (λ n. with_cached n (counts_in p)) same_cache.counted ∙ r.counts;
   limit = r.limit;
   next_id = r.next_id;
-  no_snap = r.no_snap;
+  snap = r.snap;
 }
 
 -- a slot's rows are of different keys

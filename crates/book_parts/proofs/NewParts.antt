@@ -72,5 +72,5 @@ reflects_new table id all free = record {
       ∙ ap (λ n. counts 0 0 0 0 n) (weightless pins_of refl table.cells free);
   limit = refl;
   next_id = refl;
-  no_snap = refl;
+  snap = refl;
 }

@@ -258,7 +258,7 @@ module _ (law : Leaves) (p : Parts) (m : State) (k : ℕ) (h : IsSound m) (r : R
     counts = counted;
     limit = r.limit;
     next_id = r.next_id;
-    no_snap = r.no_snap;
+    snap = r.snap;
   }
 
 -- ---- all leave

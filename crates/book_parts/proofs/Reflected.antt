@@ -95,5 +95,5 @@ reflects_kept p m index slots r i s = record {
   counts = ap₂ (λ (alive total : ℕ). record (counts_in p) { named = alive; rows = total }) s.alive s.total ∙ r.counts;
   limit = r.limit;
   next_id = r.next_id;
-  no_snap = r.no_snap;
+  snap = r.snap;
 }

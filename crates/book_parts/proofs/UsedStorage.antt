@@ -50,7 +50,7 @@ used_storage p m slot live differ r e =
     )
 
 -- a storage's live cell has its image
-live_image : (t : Storage) (count : ℕ) (phase : Phase Shared) (image : Shared) → phases.is_live phase ≡ true → has_id t.id phase ≡ true → IsCellOf t count phase → value_of phase ≡ Some image
+pub live_image : (t : Storage) (count : ℕ) (phase : Phase Shared) (image : Shared) → phases.is_live phase ≡ true → has_id t.id phase ≡ true → IsCellOf t count phase → value_of phase ≡ Some image
     → IsImageOf t image.value
 live_image t count phase image live has is e =
     let form = live_form t count phase live has is in

@@ -7,5 +7,6 @@ pub mod Stands
 pub mod Changes
 pub mod Flushes
 pub mod Shrinks
+pub mod Snaps
 pub mod Keys
 pub mod Reclaims

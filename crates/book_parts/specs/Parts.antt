@@ -1,5 +1,5 @@
 -- What contracts see of a book.
-use Rattle.std.specs.Prelude.{ℕ, List, []}
+use Rattle.std.specs.Prelude.{ℕ, List, [], Option, None}
 use Rattle.std.specs.declared.sync.Arc.{Arc}
 use Rattle.std.specs.Global.{Global}
 use Rattle.accounts_index.specs.Index.{Index}
@@ -29,9 +29,11 @@ pub record Parts : Type 0 where
   pub cells : Table Shared
   -- of each slot the storage in use, and the one that is being filled
   pub map : Slots
+  -- the slot of the open snapshot
+  pub snap : Option ℕ
   -- the id of the next storage
   pub next_id : ℕ
 
 -- those of a new book, of which all cells are free
 abbrev pub new_parts : Table Shared → ℕ → Parts
-new_parts cells id = record { index = []; cache = []; roots = []; cleaned = 0; leases = []; cells = cells; map = []; next_id = id }
+new_parts cells id = record { index = []; cache = []; roots = []; cleaned = 0; leases = []; cells = cells; map = []; snap = None; next_id = id }

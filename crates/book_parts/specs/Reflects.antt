@@ -58,7 +58,7 @@ counts_in p = record {
   pins = pins p.cells.cells;
 }
 
--- each look into the parts finds what the state says, in which no snapshot is open
+-- each look into the parts finds what the state says
 pub record Reflects (p : Parts) (m : State) : Type 0 where
   pub marks : (k : List ℕ) (s : ℕ) → option_map mark_of (indexed p.index s k) ≡ present_mark m s k
   pub placed : (k : List ℕ) (s : ℕ) (tomb : Bool) (cell offset : ℕ) → indexed p.index s k ≡ Some (tomb, Stored cell offset) → IsPlacedAt m p.cells.cells s k cell offset
@@ -72,5 +72,5 @@ pub record Reflects (p : Parts) (m : State) : Type 0 where
   pub slots : SlotsFit m p.cells.cells p.map
   pub counts : counts_in p ≡ counts_of m
   pub limit : p.cells.limit ≡ m.budget
+  pub snap : p.snap ≡ option_map (λ n. n.slot) m.snap
   pub next_id : p.next_id ≡ m.next_id
-  pub no_snap : m.snap ≡ None

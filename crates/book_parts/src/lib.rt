@@ -13,6 +13,8 @@ mod leasing;
 mod pinning;
 mod shrink_events;
 mod shrinking;
+mod snap_events;
+mod snapping;
 
 pub use cleaning::{
     crowded_keys_reflect, dropped_version_reflects, reclaim_stands, retired_storage_reflects,
@@ -31,3 +33,5 @@ pub use shrinking::{
     begun_shrink_reflects, dropped_shrink_reflects, installed_shrink_reflects,
     open_shrink_reflects, recycled_storages_reflect, used_storage_reflects,
 };
+pub use snap_events::{snap_begin_stands, snap_end_stands};
+pub use snapping::{begun_snap_reflects, ended_snap_reflects};

@@ -1,4 +1,4 @@
-use Rattle.std.proofs.Common.{◌≡◌, ℕ, ◌<◌, ◌≤◌, length, true, false, Some, sym, ap, ◌∙◌, subst, length-append, [], ◌∷◌}
+use Rattle.std.proofs.Common.{◌≡◌, ℕ, ◌<◌, ◌≤◌, length, true, false, Some, sym, ap, ◌∙◌, subst, length-append, [], ◌∷◌, arith}
 use Rattle.std.proofs.lemmas.Option.{same_Some}
 use Rattle.pass_pins.specs.Pins.{Pins}
 use Rattle.cell_table.specs.Phases.{is_live, pinned}
@@ -45,8 +45,8 @@ returns-clause-done c = λ p in_hand after m0 h view key v cell offset id row st
     let next : State = callers.pinned m pass (machine.InStorage id) in
     let was = cell_at p.cells.cells cell in
     let live : is_live was ≡ true = live_there p m key v cell offset st.sound st.parts stands in
-    let changed = repinned_more m next.pins id was live (c.pins_follow.ensures.pinned m pass id) (c.pins_follow.ensures.pinned_length m pass id) in
-    let reflected : Reflects (with_cell p cell (pinned was)) next = reflects_repinned p m next.pins id cell (pinned was) has st.parts changed in
+    let changed = repinned_more m next.pins m.snap id was live (c.pins_follow.ensures.pinned m pass id) (omega (arith, c.pins_follow.ensures.pinned_length m pass id)) in
+    let reflected : Reflects (with_cell p cell (pinned was)) next = reflects_repinned p m next.pins m.snap st.parts.snap id cell (pinned was) has st.parts changed in
     let longer = ap (λ (a : Pins). length a.pins) e ∙ length-append in_hand.pins (record { id = id; finished = false } ∷ []) in
     let in_hand_then : HoldsPins after next = held_more m next in_hand after id same held each longer (λ q. c.pins_follow.ensures.pinned_by m pass id pass q) (c.pins_follow.ensures.pinned_of m pass id pass) in
     let is_pass : IsPass pass = in_hand_then.pass in

@@ -1,4 +1,4 @@
-use Rattle.std.proofs.Common.{ℕ, IsTrue, true, false, sym, ap, ◌∙◌, subst}
+use Rattle.std.proofs.Common.{ℕ, IsTrue, true, false, sym, ap, ◌∙◌, subst, arith}
 use Rattle.std.specs.List.{list_any}
 use Rattle.std.proofs.lemmas.Bool.{ltb-true}
 use Rattle.cell_table.specs.Phases.{unpinned}
@@ -55,8 +55,8 @@ returns-clause-done c = λ p in_hand after m0 h id cell st held some has same ea
     let is = unpin_is m pass id true own in
     let event : Event = record { pass = pass; call = Unpin id; reply = Done } in
     let next : State = callers.unpinned m pass id in
-    let changed = repinned_fewer m next.pins id was pins_there (c.pins_follow.ensures.taken m pass id own) (c.pins_follow.ensures.taken_length m pass id own) in
-    let reflected : Reflects (with_cell p cell (unpinned was)) next = reflects_repinned p m next.pins id cell (unpinned was) has st.parts changed in
+    let changed = repinned_fewer m next.pins m.snap id was pins_there (c.pins_follow.ensures.taken m pass id own) (omega (arith, c.pins_follow.ensures.taken_length m pass id own)) in
+    let reflected : Reflects (with_cell p cell (unpinned was)) next = reflects_repinned p m next.pins m.snap st.parts.snap id cell (unpinned was) has st.parts changed in
     let in_hand_then : HoldsPins after next = held_fewer m next in_hand after id same held each shorter (λ q. c.pins_follow.ensures.taken_by m pass id own pass q) (c.pins_follow.ensures.taken_of m pass id own pass) in
     record {
       stands = c.step_stands.ensures.of_pass p (with_cell p cell (unpinned was)) m0 h pass (Unpin id) Done in_hand_then.pass st (ap (λ r. r.1) is)
