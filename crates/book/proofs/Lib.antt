@@ -8,3 +8,7 @@ mod Versions
 mod FlushRefusals
 mod ShrinkRefusals
 mod DeadRows
+mod NextSlots
+mod SnapImages
+mod SnapPins
+mod SnapRefusals

@@ -5,4 +5,4 @@ use Rattle.book.specs.Leasing.{leases_of}
 
 -- the fields as parts
 abbrev pub seen : Inside → Parts
-seen b = record { index = b.index; cache = b.cache; roots = b.roots; cleaned = b.cleaned; leases = leases_of b.leases.items; cells = b.cells; map = b.map; next_id = b.next_id }
+seen b = record { index = b.index; cache = b.cache; roots = b.roots; cleaned = b.cleaned; leases = leases_of b.leases.items; cells = b.cells; map = b.map; snap = b.snap; next_id = b.next_id }

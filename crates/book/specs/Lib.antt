@@ -4,3 +4,4 @@ pub mod Replies
 pub mod Flushing
 pub mod Leasing
 pub mod Shrinking
+pub mod Snapping

@@ -1,11 +1,12 @@
 -- The machine's reply for what a call answered; for want of memory there is none.
-use Rattle.std.specs.Prelude.{ℕ, List, Option, Some, None, option_map, Result, Ok, Err}
+use Rattle.std.specs.Prelude.{ℕ, List, length, Option, Some, None, option_map, Result, Ok, Err}
 use Rattle.std.specs.Option.{option_map_or}
 use Rattle.vec_scan.specs.Seal.{row_there}
 use Rattle.adb_model.specs.Call as machine
 use Rattle.adb_model.specs.Call.{Reply, Done, Refused, Purged, NotFound, Raised, Reclaimed, NothingLeft, ShrinkBegun, Superseded}
 use Rattle.flush_plan.specs.Jobs.{Job}
 use Rattle.book_parts.specs.Shrinks.{Copy}
+use Rattle.book_parts.specs.Snaps.{Snapshot}
 use Rattle.book.specs.declared.refusals.FlushRefusal.{FlushRefusal}
 use Rattle.book.specs.declared.refusals.FlushRefusal.TheVariants as flushes
 use Rattle.book.specs.declared.refusals.StoreRefusal.{StoreRefusal}
@@ -25,6 +26,8 @@ use Rattle.book.specs.declared.refusals.ShrinkRefusal.{ShrinkRefusal}
 use Rattle.book.specs.declared.refusals.ShrinkRefusal.TheVariants as shrinks
 use Rattle.book.specs.declared.refusals.ShrinkDone.{ShrinkDone}
 use Rattle.book.specs.declared.refusals.ShrinkDone.TheVariants as ends
+use Rattle.book.specs.declared.refusals.SnapRefusal.{SnapRefusal}
+use Rattle.book.specs.declared.refusals.SnapRefusal.TheVariants as snaps
 use Rattle.book.specs.declared.loading.Found.{Found}
 use Rattle.book.specs.declared.loading.FoundAt.{FoundAt}
 use Rattle.book.specs.declared.loading.FoundAt.TheVariants.{Cached, Stored}
@@ -111,3 +114,12 @@ shrink_reply (Err shrinks.NoMemory) = None
 abbrev pub shrink_end_reply : ShrinkDone → Reply
 shrink_end_reply ends.Installed = Done
 shrink_end_reply (ends.Superseded slot old) = Superseded slot old
+
+-- to a snapshot that was to begin
+abbrev pub snap_reply : Result Snapshot SnapRefusal → Option Reply
+snap_reply (Ok job) = Some (machine.SnapBegun (length job.storages))
+snap_reply (Err (snaps.SnapOpen slot)) = Some (Refused (machine.SnapOpen slot))
+snap_reply (Err (snaps.NotRoot slot)) = Some (Refused (machine.NotRoot slot))
+snap_reply (Err (snaps.SnapTooOld slot cleaned)) = Some (Refused (machine.SnapTooOld slot cleaned))
+snap_reply (Err (snaps.Unflushed slot)) = Some (Refused (machine.Unflushed slot))
+snap_reply (Err snaps.NoMemory) = None

@@ -1,8 +1,9 @@
-ghost use Rattle.std.specs.Prelude.{◌≡◌, ◌<◌, ◌≤◌, ℕ, List, [], length, Some, option_map, IfOk, IfSome};
+ghost use Rattle.std.specs.Prelude.{◌≡◌, ◌<◌, ◌≤◌, ℕ, List, [], length, map, Some, option_map, IfOk, IfSome};
 ghost use Rattle.accounts_index.specs.Index.{crowded_after};
 ghost use Rattle.adb_model.specs.State.{State, fresh};
 ghost use Rattle.adb_model.specs.Call as machine;
 ghost use Rattle.adb_model.specs.History.{state_after, IsPass};
+ghost use Rattle.adb_model.specs.Laws.{ShowLive};
 ghost use Rattle.adb_model.specs.Seen.{counts_of};
 ghost use Rattle.append_vec.specs.Filled.{Fills};
 ghost use Rattle.flush_plan.specs.Jobs.{IsOpenJob};
@@ -10,8 +11,10 @@ ghost use Rattle.book_parts.specs.Stands.{Stands, After, with_event, AfterWithPi
 ghost use Rattle.book_parts.specs.Pins.{HoldsPins};
 ghost use Rattle.book_parts.specs.Keys.{IsNextKey};
 ghost use Rattle.book_parts.specs.Shrinks.{IsOpenCopy};
+ghost use Rattle.book_parts.specs.Snaps.{IsOpenSnap};
+ghost use Rattle.vec_scan.specs.Shown.{shown};
 ghost use Rattle.pass_pins.specs.Pins.{without_one};
-ghost use Rattle.book.specs.Replies.{store_reply, root_reply, purge_reply, load_reply, unpin_reply, lease_reply, end_lease_reply, raise_reply, reclaim_reply, flush_reply, shrink_reply, shrink_end_reply};
+ghost use Rattle.book.specs.Replies.{store_reply, root_reply, purge_reply, load_reply, unpin_reply, lease_reply, end_lease_reply, raise_reply, reclaim_reply, flush_reply, shrink_reply, shrink_end_reply, snap_reply};
 ghost use Rattle.book.specs.Pinned.{IsThere, pins_after};
 
 use crate::flushing::{spent, why_not};
@@ -21,10 +24,11 @@ use crate::pinning::{Cells, Held, pin};
 use crate::purging::leave;
 use crate::refusals::{
     FlushRefusal, LeaseRefusal, LoadRefusal, NotLeased, NotPinned, RaiseRefusal, RootRefusal,
-    Rooted, ShrinkDone, ShrinkRefusal, StoreRefusal,
+    Rooted, ShrinkDone, ShrinkRefusal, SnapRefusal, StoreRefusal,
 };
 use crate::rooting::rooted_by;
 use crate::shrinking::{no_id_for, why_not_shrunk};
+use crate::snapping::{SnapJob, pin_each, storages_upto, unpin_each, why_not_snapped};
 use crate::storing::enter;
 use accounts_index::AccountsIndex;
 use adb_model::{Account, Key, Slot, Stats, View};
@@ -32,8 +36,8 @@ use append_vec::{Filled, filled_rows_are_the_same};
 use book_parts::{
     flush_begin_stands, flush_end_stands, lease_stands, load_stands, new_parts_stand,
     next_key_stands, purge_stands, raise_stands, reclaim_stands, recycle_stands, root_stands,
-    shrink_begin_stands, shrink_end_stands, stats_stand, store_stands, stored_load_stands,
-    sums_fit, unpin_stands,
+    shrink_begin_stands, shrink_end_stands, snap_begin_stands, snap_end_stands, stats_stand,
+    store_stands, stored_load_stands, sums_fit, unpin_stands,
 };
 use cell_table::CellTable;
 use flush_plan::FlushJob;
@@ -68,6 +72,8 @@ pub struct Book {
     cells: Cells,
     /// Of each slot the storage in use, and the one that is being filled.
     map: StorageMap,
+    /// The slot of the open snapshot.
+    snap: Option<Slot>,
     /// The id of the next storage.
     next_id: u64,
     alloc: Global,
@@ -102,6 +108,7 @@ impl Book {
             leases: Vec::new(alloc),
             cells: CellTable::new(alloc, budget, MAX_STORAGES),
             map: StorageMap::new(alloc),
+            snap: None,
             next_id: first_id,
             alloc,
         })
@@ -451,6 +458,50 @@ impl Book {
     {
         shrink_end_stands();
         shrink_plan::abort(job, &mut self.cells, &mut self.map);
+    }
+
+    /// Begins a snapshot of a root: its storages are those in use of the slots up to it, whose images the job shares,
+    /// by rising slot. They stay until the snapshot ends, whatever is cleaned or shrunk meanwhile. It takes all the
+    /// memory that the end needs.
+    ///
+    /// # Errors
+    /// `SnapOpen` exactly where a snapshot is open, of whose slot it tells; else `NotRoot` exactly where the slot is no
+    /// root; else `SnapTooOld` exactly where it is below the slot up to which was cleaned; else `Unflushed` exactly
+    /// where a root up to it has rows in the write cache, of which it names the least.
+    pub fn snap_begin(&mut self, slot: Slot) -> Result<SnapJob, SnapRefusal>
+        ensures stands { (m0 : State) (h : List machine.Event) (pass : ℕ) → Stands self.old m0 h
+            → After self.new m0 h pass (machine.SnapBegin slot) (snap_reply result) }
+        ensures opens { (m0 : State) (h : List machine.Event) (pass : ℕ) → Stands self.old m0 h
+            → IfOk result (λ job. IsOpenSnap job (state_after m0 (with_event h pass (machine.SnapBegin slot) (snap_reply result)))) }
+        ensures shows { (m0 : State) (h : List machine.Event) → Stands self.old m0 h
+            → IfOk result (λ job. ShowLive (state_after m0 h) slot (map shown job.storages)) }
+        ensures slot { IfOk result (λ job. job.slot ≡ slot) }
+    {
+        snap_begin_stands();
+        if let Some(refusal) = why_not_snapped(
+            self.snap,
+            &self.roots,
+            self.cleaned,
+            &self.cache,
+            slot,
+        ) {
+            return Err(refusal);
+        }
+        let storages = storages_upto(self.alloc, slot, &self.cells, &self.map)?;
+        pin_each(&mut self.cells, &storages);
+        self.snap = Some(slot);
+        Ok(SnapJob::new(slot, storages))
+    }
+
+    /// Ends a snapshot: its storages are let go of. It takes no memory.
+    pub fn snap_end(&mut self, job: SnapJob)
+        requires { (m0 : State) × (h : List machine.Event) × Stands self.old m0 h × IsOpenSnap job (state_after m0 h) }
+        ensures { (m0 : State) (h : List machine.Event) (pass : ℕ) → Stands self.old m0 h → IsOpenSnap job (state_after m0 h)
+            → After self.new m0 h pass (machine.SnapEnd job.slot) (Some machine.Done) }
+    {
+        snap_end_stands();
+        unpin_each(&mut self.cells, job.storages());
+        self.snap = None;
     }
 
     /// Lets every storage go that is no longer in use and that nobody has pinned, and says how many these are. It takes

@@ -14,6 +14,9 @@ mod purging;
 mod refusals;
 mod rooting;
 mod shrinking;
+mod snapping;
+#[cfg(test)]
+mod snapping_tests;
 mod storing;
 #[cfg(test)]
 mod tests;
@@ -22,5 +25,6 @@ pub use book::{Book, MAX_STORAGES};
 pub use loading::{Found, FoundAt};
 pub use refusals::{
     FlushRefusal, LeaseRefusal, LoadRefusal, NotLeased, NotPinned, RaiseRefusal, RootRefusal,
-    Rooted, ShrinkDone, ShrinkRefusal, StoreRefusal,
+    Rooted, ShrinkDone, ShrinkRefusal, SnapRefusal, StoreRefusal,
 };
+pub use snapping::SnapJob;

@@ -109,6 +109,21 @@ pub enum ShrinkRefusal {
     NoMemory,
 }
 
+/// Why no snapshot began.
+#[derive(Clone, Copy, Debug, PartialEq, Eq)]
+pub enum SnapRefusal {
+    /// The snapshot of this slot is open.
+    SnapOpen { slot: Slot },
+    /// The slot is no root.
+    NotRoot { slot: Slot },
+    /// The slot is below the one up to which was cleaned.
+    SnapTooOld { slot: Slot, cleaned: Slot },
+    /// This root, the least of those up to the slot that are so, has rows in the write cache.
+    Unflushed { slot: Slot },
+    /// Want of memory.
+    NoMemory,
+}
+
 /// How a shrink ended.
 #[derive(Clone, Copy, Debug, PartialEq, Eq)]
 pub enum ShrinkDone {
@@ -159,6 +174,17 @@ impl From<AllocError> for LeaseRefusal {
 
     fn from(_: AllocError) -> Self {
         LeaseRefusal::NoMemory
+    }
+}
+
+impl From<AllocError> for SnapRefusal {
+    ghost use Rattle.std.specs.Prelude.{◌≡◌};
+    ghost use Rattle.book.specs.declared.refusals.SnapRefusal.TheVariants as snaps;
+
+    ghost from_gives = { λ _ e. e ≡ snaps.NoMemory };
+
+    fn from(_: AllocError) -> Self {
+        SnapRefusal::NoMemory
     }
 }
 

@@ -1,4 +1,4 @@
-use Rattle.std.proofs.Common.{◌≡◌, ℕ, List, [], sym, ap, subst}
+use Rattle.std.proofs.Common.{◌≡◌, ℕ, List, [], None, sym, ap, subst}
 use Rattle.accounts_index.specs.Index.{Index}
 use Rattle.write_cache.specs.Rows.{Cache}
 use Rattle.cell_table.specs.Cells.{Table}
@@ -11,10 +11,10 @@ use Rattle.book.proofs.book.Book.new.Goals as goal
 
 stands_new : (index : Index) (cache : Cache) (roots : List ℕ) (leases : List Lease) (cells : Table Shared) (map : Slots) (budget id : ℕ) → index ≡ [] → cache ≡ [] → roots ≡ [] → leases ≡ [] → map ≡ [] → cells.limit ≡ budget
     → Stands (new_parts cells id) (fresh cells.limit id) []
-    → Stands (record { index = index; cache = cache; roots = roots; cleaned = 0; leases = leases; cells = cells; map = map; next_id = id }) (fresh budget id) []
+    → Stands (record { index = index; cache = cache; roots = roots; cleaned = 0; leases = leases; cells = cells; map = map; snap = None; next_id = id }) (fresh budget id) []
 stands_new index cache roots leases cells map budget id no_index no_cache no_roots no_leases no_map limit st =
-    let parts : Parts = record { index = index; cache = cache; roots = roots; cleaned = 0; leases = leases; cells = cells; map = map; next_id = id } in
-    let is : parts ≡ new_parts cells id = λ i. record { index = no_index i; cache = no_cache i; roots = no_roots i; cleaned = 0; leases = no_leases i; cells = cells; map = no_map i; next_id = id } in
+    let parts : Parts = record { index = index; cache = cache; roots = roots; cleaned = 0; leases = leases; cells = cells; map = map; snap = None; next_id = id } in
+    let is : parts ≡ new_parts cells id = λ i. record { index = no_index i; cache = no_cache i; roots = no_roots i; cleaned = 0; leases = no_leases i; cells = cells; map = no_map i; snap = None; next_id = id } in
     subst (λ (n : ℕ). Stands parts (fresh n id) []) limit (subst (λ (p : Parts). Stands p (fresh cells.limit id) []) (sym is) st)
 
 pub invariant_of-result : goal.invariant_of-result
