@@ -2,6 +2,7 @@ pub mod Alone
 pub mod Answering
 pub mod Entries
 pub mod Faults
+pub mod Held
 pub mod Listed
 pub mod Manifests
 pub mod Names

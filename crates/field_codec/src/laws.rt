@@ -1,11 +1,14 @@
 // What holds of all manifests. A law is a function that does nothing: its contract is the law, and a call
 // tells it to the caller's proof.
-ghost use Rattle.std.specs.Prelude.{◌≡◌, ◌≢◌, ◌+◌, ◌*◌, ◌<◌, ◌^◌, ◌++◌, List, Ok, All, true, length, ℕ};
-ghost use Rattle.dir_io.specs.Files.{has_prefix};
+ghost use Rattle.std.specs.Prelude.{◌≡◌, ◌≢◌, ◌+◌, ◌*◌, ◌<◌, ◌^◌, ◌++◌, List, Ok, Result, All, true, length, ℕ};
+ghost use Rattle.dir_io.specs.Files.{Files, has_prefix};
+ghost use Rattle.field_codec.specs.Forms.{Finds, Flaw, Found, HoldsForm, form_in};
 ghost use Rattle.field_codec.specs.Manifest.{Content, IsManifest};
 ghost use Rattle.field_codec.specs.Paths as paths;
 ghost use Rattle.field_codec.specs.Reading.{Reads, manifest_in};
 ghost use Rattle.field_codec.specs.Written.{IsWritable, written_manifest};
+
+use text_fields::number_texts_are_numbers;
 
 /// Reading from left to right and the form of a manifest agree: a manifest is read as what it says, and bytes
 /// that are read are a manifest that says it.
@@ -46,3 +49,13 @@ pub fn names_of_files_differ()
     ensures slots { (name : List ℕ) (slot id other other_id : ℕ) → slot < 2 ^ 64 → other < 2 ^ 64
         → paths.storage_path name slot id ≡ paths.storage_path name other other_id → slot ≡ other }
 {}
+
+/// Files that hold a form are found as just this form, and files in which a form is found hold it.
+pub fn held_forms_are_found()
+    ensures found { (files : Files) (name : List ℕ) (content : Content) (found : Result Found Flaw)
+        → HoldsForm files name content → Finds files name found → found ≡ Ok (form_in name content) }
+    ensures held { (files : Files) (name : List ℕ) (form : Found)
+        → Finds files name (Ok form) → (content : Content) × HoldsForm files name content × (form ≡ form_in name content) }
+{
+    number_texts_are_numbers();
+}

@@ -32,7 +32,7 @@ pub use fields::{FieldStorage, Fields};
 pub use form::{Form, FormFile, read_form};
 pub use form_fault::FormFault;
 pub use laws::{
-    manifests_are_read, manifests_have_one_reading, names_of_files_differ,
+    held_forms_are_found, manifests_are_read, manifests_have_one_reading, names_of_files_differ,
     written_manifests_are_read,
 };
 pub use name::{is_name, manifest_path, prefix_of, status_path, storage_path, version_path};

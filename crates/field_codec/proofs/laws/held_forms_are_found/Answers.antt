@@ -1,0 +1,9 @@
+use Rattle.field_codec.proofs.Held.{found_is, holds}
+use Rattle.field_codec.proofs.laws.held_forms_are_found.Goals as goal
+
+pub returns-clause-found : goal.returns-clause-found
+returns-clause-found c files name content found h finds =
+    found_is files name finds.names finds.listed.complete finds.listed.rising content h c.number_texts_are_numbers.ensures found finds.finds
+
+pub returns-clause-held : goal.returns-clause-held
+returns-clause-held c files name form finds = holds files name finds.names finds.listed.complete form finds.finds
