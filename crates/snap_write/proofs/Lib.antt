@@ -1,0 +1,7 @@
+pub mod Facts
+pub mod Fronts
+pub mod Holding
+pub mod Laid
+pub mod Lookups
+pub mod Passing
+pub mod Steps
