@@ -7,7 +7,7 @@ use Rattle.std.proofs.lemmas.Bool.{and_from, and_parts, cases_Bool, cond-true, c
 use Rattle.std.proofs.lemmas.Slice.Eq.{bytes_eq-Decides}
 use Rattle.adb_model.specs.Account.{Account, account_of}
 use Rattle.adb_model.specs.View.{View}
-use Rattle.adb_model.specs.Call.{Call, Store, Root, Purge, Load, Unpin, Lease, EndLease, FlushBegin, FlushEnd, FlushAbort, Raise, Reclaim, ShrinkBegin, ShrinkEnd, ShrinkAbort, Recycle, Stats}
+use Rattle.adb_model.specs.Call.{Call, Store, Root, Purge, Load, Unpin, Lease, EndLease, FlushBegin, FlushEnd, FlushAbort, Raise, Reclaim, ShrinkBegin, ShrinkEnd, ShrinkAbort, SnapBegin, SnapEnd, Recycle, Stats}
 use Rattle.hex.proofs.OnLiterals.{hex_on_literals}
 use Rattle.text_fields.specs.Keys.{key_of}
 use Rattle.text_fields.specs.Numbers.{number_of}
@@ -19,7 +19,7 @@ use Rattle.script.specs.declared.line.Leading.TheVariants as leadings
 use Rattle.script.specs.Arguments.{view_of, max_root_of, flag_of, data_of, after_of}
 use Rattle.script.specs.Data.{IsData}
 use Rattle.script.specs.Grammar.{filled, store_defaults, flush_defaults, IsStore, IsOfNumber, IsOfView, IsUpTo, IsFlush, IsOfMaxRoot, IsAfter, IsReclaim, IsOrder, IsLine, AreLines, AreSaid, IsScript}
-use Rattle.script.specs.Reader.{◌>>=◌, good, argument, optional, fitting, ended, if_lane, lane_of, data_argument, store_of, only_number, number_order, if_up_to, count_argument, flush_of, reclaim_of, only_max_root, view_and_key_of, alone, numbered_of, order_of, is_header, first_fault, lane_argument, line_of, said_by, and_then, lines_from, with_budget, unskipped, leading_of, headed, said_from, script_of}
+use Rattle.script.specs.Reader.{◌>>=◌, good, argument, optional, fitting, ended, if_lane, lane_of, data_argument, store_of, only_number, number_order, if_up_to, count_argument, flush_of, reclaim_of, only_max_root, view_and_key_of, alone, numbered_of, copying_of, order_of, is_header, first_fault, lane_argument, line_of, said_by, and_then, lines_from, with_budget, unskipped, leading_of, headed, said_from, script_of}
 use Rattle.script.specs.Laws.{ReadsTheGrammar}
 use Rattle.script.specs.Said.{Order, Plain, Get, Flush, Clean, Shrink, Line, Said}
 use Rattle.script.specs.Text.{flag_text}
@@ -409,6 +409,17 @@ pick w c this others x e one more = elim (chosen (bytes_eq w c) this others x e)
   | inr t ↦ more t.1
 ]
 
+copying_read : (w : List ℕ) (ws : List (List ℕ)) (o : Order) → copying_of w ws ≡ Ok o → IsOrder (w ∷ ws) o
+unfolding copying_of
+copying_read w ws o e0 =
+    pick w (codes "shrink-begin") _ _ _ e0 (number_ordered (codes "shrink-begin") (λ n. Plain (ShrinkBegin n)) w ws o (λ n h. h)) (λ e1.
+    pick w (codes "shrink-end") _ _ _ e1 (number_ordered (codes "shrink-end") (λ n. Plain (ShrinkEnd n)) w ws o (λ n h. h)) (λ e2.
+    pick w (codes "shrink-abort") _ _ _ e2 (number_ordered (codes "shrink-abort") (λ n. Plain (ShrinkAbort n)) w ws o (λ n h. h)) (λ e3.
+    pick w (codes "shrink") _ _ _ e3 (number_ordered (codes "shrink") (λ n. Shrink n) w ws o (λ n h. h)) (λ e4.
+    pick w (codes "snap-begin") _ _ _ e4 (number_ordered (codes "snap-begin") (λ n. Plain (SnapBegin n)) w ws o (λ n h. h)) (λ e5.
+    pick w (codes "snap-end") _ _ _ e5 (number_ordered (codes "snap-end") (λ n. Plain (SnapEnd n)) w ws o (λ n h. h)) (λ e6.
+    absurd (cc e6)))))))
+
 numbered_read : (w : List ℕ) (ws : List (List ℕ)) (o : Order) → numbered_of w ws ≡ Ok o → IsOrder (w ∷ ws) o
 unfolding numbered_of
 numbered_read w ws o e0 =
@@ -420,11 +431,7 @@ numbered_read w ws o e0 =
     pick w (codes "flush-abort") _ _ _ e5 (number_ordered (codes "flush-abort") (λ n. Plain (FlushAbort n)) w ws o (λ n h. h)) (λ e6.
     pick w (codes "raise") _ _ _ e6 (number_ordered (codes "raise") (λ n. Plain (Raise n)) w ws o (λ n h. h)) (λ e7.
     pick w (codes "clean") _ _ _ e7 (number_ordered (codes "clean") (λ n. Clean n) w ws o (λ n h. h)) (λ e8.
-    pick w (codes "shrink-begin") _ _ _ e8 (number_ordered (codes "shrink-begin") (λ n. Plain (ShrinkBegin n)) w ws o (λ n h. h)) (λ e9.
-    pick w (codes "shrink-end") _ _ _ e9 (number_ordered (codes "shrink-end") (λ n. Plain (ShrinkEnd n)) w ws o (λ n h. h)) (λ e10.
-    pick w (codes "shrink-abort") _ _ _ e10 (number_ordered (codes "shrink-abort") (λ n. Plain (ShrinkAbort n)) w ws o (λ n h. h)) (λ e11.
-    pick w (codes "shrink") _ _ _ e11 (number_ordered (codes "shrink") (λ n. Shrink n) w ws o (λ n h. h)) (λ e12.
-    absurd (cc e12)))))))))))))
+    copying_read w ws o e8))))))))
 
 order_read : (ws : List (List ℕ)) (o : Order) → order_of ws ≡ Ok o → IsOrder ws o
 unfolding order_of
@@ -442,7 +449,7 @@ order_read (w ∷ ws) o e0 =
     numbered_read w ws o e9)))))))))
 
 order_again : (ws : List (List ℕ)) (o : Order) → IsOrder ws o → order_of ws ≡ Ok o
-unfolding order_of numbered_of
+unfolding order_of numbered_of copying_of
 order_again ws (Plain (Store slot key account)) h = ap order_of h.words ∙ store_again ws slot key account h
 order_again ws (Plain (Root slot)) h = ap order_of h.words ∙ rw (number_again 3 h.number_word slot h.number_is) refl
 order_again ws (Plain (Purge slot)) h = ap order_of h.words ∙ rw (number_again 3 h.number_word slot h.number_is) refl
@@ -458,13 +465,14 @@ order_again ws (Plain (Load view key)) h = ap order_of h.words ∙ rw (view_orde
 order_again ws (Plain (ShrinkBegin slot)) h = ap order_of h.words ∙ rw (number_again 3 h.number_word slot h.number_is) refl
 order_again ws (Plain (ShrinkEnd slot)) h = ap order_of h.words ∙ rw (number_again 3 h.number_word slot h.number_is) refl
 order_again ws (Plain (ShrinkAbort slot)) h = ap order_of h.words ∙ rw (number_again 3 h.number_word slot h.number_is) refl
+order_again ws (Plain (SnapBegin slot)) h = ap order_of h.words ∙ rw (number_again 3 h.number_word slot h.number_is) refl
+order_again ws (Plain (SnapEnd slot)) h = ap order_of h.words ∙ rw (number_again 3 h.number_word slot h.number_is) refl
 order_again ws (Plain Recycle) h = ap order_of h ∙ alone_again Recycle
 order_again ws (Plain Stats) h = ap order_of h ∙ alone_again Stats
 order_again ws (Get view key) h = ap order_of h.words ∙ rw (view_order_again (codes "get") ws view key h) refl
 order_again ws (Flush slot workers) h = ap order_of h.words ∙ flush_again ws slot workers h
 order_again ws (Clean upto) h = ap order_of h.words ∙ rw (number_again 3 h.number_word upto h.number_is) refl
 order_again ws (Shrink slot) h = ap order_of h.words ∙ rw (number_again 3 h.number_word slot h.number_is) refl
-order_again ws o h = absurd h
 
 -- ---- lines
 

@@ -6,4 +6,5 @@ pub mod Separated
 pub mod DataLemmas
 pub mod ViewGrammar
 pub mod DataGrammar
+pub mod EqualBytes
 pub mod GrammarLemmas

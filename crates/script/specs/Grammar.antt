@@ -2,7 +2,7 @@
 use Rattle.std.specs.Prelude.{◌≡◌, ◌≤◌, ℕ, Bool, not, List, [], ◌∷◌, ◌++◌, length, drop, codes, filter, map, Option, Some, None}
 use Rattle.std.specs.Str.Lines.{lines}
 use Rattle.adb_model.specs.Account.{Account, account_of}
-use Rattle.adb_model.specs.Call.{Store, Root, Purge, Load, Unpin, Lease, EndLease, FlushBegin, FlushEnd, FlushAbort, Raise, Reclaim, ShrinkBegin, ShrinkEnd, ShrinkAbort, Recycle, Stats}
+use Rattle.adb_model.specs.Call.{Store, Root, Purge, Load, Unpin, Lease, EndLease, FlushBegin, FlushEnd, FlushAbort, Raise, Reclaim, ShrinkBegin, ShrinkEnd, ShrinkAbort, SnapBegin, SnapEnd, Recycle, Stats}
 use Rattle.adb_model.specs.View.{View}
 use Rattle.text_fields.specs.Keys.{key_of}
 use Rattle.text_fields.specs.Numbers.{number_of}
@@ -101,7 +101,7 @@ pub record IsReclaim (ws : List (List ℕ)) (after : Option (List ℕ)) (most : 
   pub after_is : IsAfter after_word after
   pub most_is : IsUpTo 256 most_word most
 
--- the words after the lane; nothing else is asked for yet
+-- the words after the lane
 abbrev pub IsOrder : List (List ℕ) → Order → Type 0
 IsOrder ws (Plain (Store slot key account)) = IsStore ws slot key account
 IsOrder ws (Plain (Root slot)) = IsOfNumber (codes "root") ws slot
@@ -118,13 +118,14 @@ IsOrder ws (Plain (Reclaim after most)) = IsReclaim ws after most
 IsOrder ws (Plain (ShrinkBegin slot)) = IsOfNumber (codes "shrink-begin") ws slot
 IsOrder ws (Plain (ShrinkEnd slot)) = IsOfNumber (codes "shrink-end") ws slot
 IsOrder ws (Plain (ShrinkAbort slot)) = IsOfNumber (codes "shrink-abort") ws slot
+IsOrder ws (Plain (SnapBegin slot)) = IsOfNumber (codes "snap-begin") ws slot
+IsOrder ws (Plain (SnapEnd slot)) = IsOfNumber (codes "snap-end") ws slot
 IsOrder ws (Plain Recycle) = ws ≡ codes "recycle" ∷ []
 IsOrder ws (Plain Stats) = ws ≡ codes "stats" ∷ []
 IsOrder ws (Get view key) = IsOfView (codes "get") ws view key
 IsOrder ws (Flush slot workers) = IsFlush ws slot workers
 IsOrder ws (Clean upto) = IsOfNumber (codes "clean") ws upto
 IsOrder ws (Shrink slot) = IsOfNumber (codes "shrink") ws slot
-IsOrder ws order = ⊥
 
 -- the words of a line: a lane from 1 to 64, and what it is to do
 pub record IsLine (ws : List (List ℕ)) (line : Line) : Type 0 where

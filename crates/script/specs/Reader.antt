@@ -3,7 +3,7 @@ use Rattle.std.specs.Prelude.{ℕ, ◌+◌, nat_le, ◌&&◌, Bool, false, if◌
 use Rattle.std.specs.Str.{bytes_eq}
 use Rattle.std.specs.Str.Lines.{lines}
 use Rattle.adb_model.specs.Account.{account_of}
-use Rattle.adb_model.specs.Call.{Call, Store, Root, Purge, Load, Unpin, Lease, EndLease, FlushBegin, FlushEnd, FlushAbort, Raise, Reclaim, ShrinkBegin, ShrinkEnd, ShrinkAbort, Recycle, Stats}
+use Rattle.adb_model.specs.Call.{Call, Store, Root, Purge, Load, Unpin, Lease, EndLease, FlushBegin, FlushEnd, FlushAbort, Raise, Reclaim, ShrinkBegin, ShrinkEnd, ShrinkAbort, SnapBegin, SnapEnd, Recycle, Stats}
 use Rattle.adb_model.specs.View.{View}
 use Rattle.text_fields.specs.Keys.{key_of}
 use Rattle.text_fields.specs.Numbers.{number_of}
@@ -125,6 +125,17 @@ only_max_root ws = do
 abbrev pub alone : Call → List (List ℕ) → Result Order WordFault
 alone call ws = ended 3 ws >>= λ done. Ok (Plain call)
 
+-- the commands of shrinks and of snapshots that have a number and no more
+unfoldable pub copying_of : List ℕ → List (List ℕ) → Result Order WordFault
+copying_of w ws =
+    if bytes_eq w (codes "shrink-begin") then number_order (λ slot. Plain (ShrinkBegin slot)) ws
+    else if bytes_eq w (codes "shrink-end") then number_order (λ slot. Plain (ShrinkEnd slot)) ws
+    else if bytes_eq w (codes "shrink-abort") then number_order (λ slot. Plain (ShrinkAbort slot)) ws
+    else if bytes_eq w (codes "shrink") then number_order (λ slot. Shrink slot) ws
+    else if bytes_eq w (codes "snap-begin") then number_order (λ slot. Plain (SnapBegin slot)) ws
+    else if bytes_eq w (codes "snap-end") then number_order (λ slot. Plain (SnapEnd slot)) ws
+    else fault 2 kinds.Unknown
+
 -- the commands that have a number and no more
 unfoldable pub numbered_of : List ℕ → List (List ℕ) → Result Order WordFault
 numbered_of w ws =
@@ -136,11 +147,7 @@ numbered_of w ws =
     else if bytes_eq w (codes "flush-abort") then number_order (λ slot. Plain (FlushAbort slot)) ws
     else if bytes_eq w (codes "raise") then number_order (λ upto. Plain (Raise upto)) ws
     else if bytes_eq w (codes "clean") then number_order (λ upto. Clean upto) ws
-    else if bytes_eq w (codes "shrink-begin") then number_order (λ slot. Plain (ShrinkBegin slot)) ws
-    else if bytes_eq w (codes "shrink-end") then number_order (λ slot. Plain (ShrinkEnd slot)) ws
-    else if bytes_eq w (codes "shrink-abort") then number_order (λ slot. Plain (ShrinkAbort slot)) ws
-    else if bytes_eq w (codes "shrink") then number_order (λ slot. Shrink slot) ws
-    else fault 2 kinds.Unknown
+    else copying_of w ws
 
 unfoldable pub order_of : List (List ℕ) → Result Order WordFault
 order_of [] = fault 2 kinds.Missing

@@ -112,6 +112,34 @@ fn view_and_key<'a>(
     Ok((view, key))
 }
 
+// What a command of shrinks or of snapshots asks for that has a number and no more.
+#[tactic(auto, unfolding(crate::specs::Reader::copying_of))]
+fn copying(command: &[u8], line: &[u8]) -> Result<Order, ReadError>
+    ensures { Gives order_seen result (reader.copying_of command.now (words line.now)) }
+{
+    if command == b"shrink-begin".as_slice() {
+        let slot = only_number(3, line)?;
+        Ok(Order::Event(Call::ShrinkBegin { slot }))
+    } else if command == b"shrink-end".as_slice() {
+        let slot = only_number(3, line)?;
+        Ok(Order::Event(Call::ShrinkEnd { slot }))
+    } else if command == b"shrink-abort".as_slice() {
+        let slot = only_number(3, line)?;
+        Ok(Order::Event(Call::ShrinkAbort { slot }))
+    } else if command == b"shrink".as_slice() {
+        let slot = only_number(3, line)?;
+        Ok(Order::Shrink { slot })
+    } else if command == b"snap-begin".as_slice() {
+        let slot = only_number(3, line)?;
+        Ok(Order::Event(Call::SnapBegin { slot }))
+    } else if command == b"snap-end".as_slice() {
+        let slot = only_number(3, line)?;
+        Ok(Order::Event(Call::SnapEnd { slot }))
+    } else {
+        Err(fault(2, Kind::Unknown))
+    }
+}
+
 // What a command asks for that has a number and no more.
 #[tactic(auto, unfolding(crate::specs::Reader::numbered_of))]
 fn numbered(command: &[u8], line: &[u8]) -> Result<Order, ReadError>
@@ -141,20 +169,8 @@ fn numbered(command: &[u8], line: &[u8]) -> Result<Order, ReadError>
     } else if command == b"clean".as_slice() {
         let upto = only_number(3, line)?;
         Ok(Order::Clean { upto })
-    } else if command == b"shrink-begin".as_slice() {
-        let slot = only_number(3, line)?;
-        Ok(Order::Event(Call::ShrinkBegin { slot }))
-    } else if command == b"shrink-end".as_slice() {
-        let slot = only_number(3, line)?;
-        Ok(Order::Event(Call::ShrinkEnd { slot }))
-    } else if command == b"shrink-abort".as_slice() {
-        let slot = only_number(3, line)?;
-        Ok(Order::Event(Call::ShrinkAbort { slot }))
-    } else if command == b"shrink".as_slice() {
-        let slot = only_number(3, line)?;
-        Ok(Order::Shrink { slot })
     } else {
-        Err(fault(2, Kind::Unknown))
+        copying(command, line)
     }
 }
 

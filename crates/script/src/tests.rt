@@ -31,6 +31,10 @@ fn reply_to(call: &Call) -> Reply {
             old: 1,
         },
         Call::ShrinkAbort { .. } => Reply::Done,
+        Call::SnapBegin { .. } => Reply::SnapBegun { storages: 4 },
+        Call::SnapEnd { slot } => Reply::Refused {
+            refusal: Refusal::NotSnapping { slot: *slot },
+        },
         Call::Recycle => Reply::Recycled { storages: 2 },
         Call::Stats => Reply::Counted {
             stats: Stats {
@@ -161,6 +165,10 @@ fn scripts_say_these_lines(rt: HostRuntime) -> Result<(), Fail> {
         (
             "1 shrink-begin 02\n1 shrink-end 2 = ok\n2 shrink-abort 2\n1 shrink 002",
             "1 shrink-begin 2 = ok 1 3 272\n1 shrink-end 2 = superseded 2 1\n2 shrink-abort 2 = ok\n1 shrink 2\n",
+        ),
+        (
+            "1 snap-begin 08 = unflushed 8\n3 snap-end 8",
+            "1 snap-begin 8 = ok 4\n3 snap-end 8 = not-snapping 8\n",
         ),
         ("1 recycle = ok 0\n", "1 recycle = ok 2\n"),
         (
@@ -357,6 +365,10 @@ fn other_words_are_no_order_of_storages(rt: HostRuntime) -> Result<(), Fail> {
         ("1 shrink-abort all", 1, 3, Kind::Number),
         ("1 shrink-abort 2 2", 1, 4, Kind::Surplus),
         ("1 shrink-", 1, 2, Kind::Unknown),
+        ("1 snap-begin", 1, 3, Kind::Missing),
+        ("1 snap-begin x", 1, 3, Kind::Number),
+        ("1 snap-end 5 s", 1, 4, Kind::Surplus),
+        ("1 snap-abort 5", 1, 2, Kind::Unknown),
         ("1 recycle 1", 1, 3, Kind::Surplus),
         ("1 recycled", 1, 2, Kind::Unknown),
     ] {

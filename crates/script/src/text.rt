@@ -28,9 +28,10 @@ fn push_spaced(text: &mut String, n: u64) -> Result<(), AllocError>
 fn are_equal(bytes: &[u8]) -> bool
     ensures { result ≡ texts.are_equal bytes.now }
 {
+    // Each is equal to the next one.
     match bytes {
         [] => true,
-        [first, ..] => bytes.iter().all(|byte| *byte == *first),
+        [_, ..] => bytes[1..] == bytes[..bytes.len() - 1],
     }
 }
 
@@ -129,6 +130,8 @@ fn push_call(
         Call::ShrinkBegin { slot } => write!(text, "shrink-begin {slot}"),
         Call::ShrinkEnd { slot } => write!(text, "shrink-end {slot}"),
         Call::ShrinkAbort { slot } => write!(text, "shrink-abort {slot}"),
+        Call::SnapBegin { slot } => write!(text, "snap-begin {slot}"),
+        Call::SnapEnd { slot } => write!(text, "snap-end {slot}"),
         Call::Recycle => text.push_str("recycle"),
         Call::Stats => text.push_str("stats"),
     }
@@ -192,6 +195,11 @@ fn push_refusal(text: &mut String, refusal: Refusal) -> Result<(), AllocError>
         Refusal::Shrinking { slot, id } => write!(text, "shrinking {slot} {id}"),
         Refusal::NothingDead { slot } => write!(text, "nothing-dead {slot}"),
         Refusal::NotShrinking { slot } => write!(text, "not-shrinking {slot}"),
+        Refusal::SnapOpen { slot } => write!(text, "snap-open {slot}"),
+        Refusal::NotRoot { slot } => write!(text, "not-root {slot}"),
+        Refusal::SnapTooOld { slot, cleaned } => write!(text, "snap-too-old {slot} {cleaned}"),
+        Refusal::Unflushed { slot } => write!(text, "unflushed {slot}"),
+        Refusal::NotSnapping { slot } => write!(text, "not-snapping {slot}"),
     }
 }
 
@@ -245,6 +253,7 @@ fn push_reply(text: &mut String, reply: &Reply) -> Result<(), AllocError>
         Reply::NothingLeft => text.push_str("done"),
         Reply::ShrinkBegun { old, new, bytes } => write!(text, "ok {old} {new} {bytes}"),
         Reply::Superseded { slot, old } => write!(text, "superseded {slot} {old}"),
+        Reply::SnapBegun { storages } => write!(text, "ok {storages}"),
         Reply::Recycled { storages } => write!(text, "ok {storages}"),
         Reply::Counted { stats } => push_stats(text, stats),
     }

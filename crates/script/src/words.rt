@@ -3,7 +3,7 @@ ghost use Rattle.std.specs.List.{position_or_len, prefix_len, before_first, afte
 ghost use Rattle.script.specs.Reader as reader;
 ghost use Rattle.script.specs.Words as texts;
 
-use memchr::{memchr, memchr2};
+use memchr::memchr;
 
 fn is_blank(byte: u8) -> bool
     ensures { result ≡ texts.is_blank byte }
@@ -23,7 +23,9 @@ fn blanks(line: &[u8]) -> usize
 fn word_len(line: &[u8]) -> usize
     ensures { result ≡ position_or_len (λ b. texts.is_blank b) line.now }
 {
-    memchr2(b' ', b'\t', line).unwrap_or(line.len())
+    line.iter()
+        .position(|byte| is_blank(*byte))
+        .unwrap_or(line.len())
 }
 
 /// The first word of a line and what follows it, where the line has a word.
