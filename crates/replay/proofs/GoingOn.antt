@@ -19,16 +19,20 @@ use Rattle.pass_pins.specs.Pins.{Pins}
 use Rattle.flush_plan.specs.Jobs.{Job, storage_of}
 use Rattle.book_parts.specs.Parts.{Parts}
 use Rattle.book_parts.specs.Shrinks.{Copy}
+use Rattle.book_parts.specs.Snaps.{Snapshot}
 use Rattle.book_parts.specs.Stands.{Stands, After, AfterWithPins, with_event}
 use Rattle.book.specs.declared.refusals.FlushRefusal.{FlushRefusal}
 use Rattle.book.specs.declared.refusals.FlushRefusal.TheVariants as flushes
 use Rattle.book.specs.declared.refusals.ShrinkRefusal.{ShrinkRefusal}
 use Rattle.book.specs.declared.refusals.ShrinkRefusal.TheVariants as shrinks
-use Rattle.book.specs.Replies.{flush_reply, shrink_reply}
-use Rattle.replay.specs.Standing.{IsLane, Lanes, LanesHold, JobsStand, ShrinksStand, PlayerStands}
+use Rattle.book.specs.declared.refusals.SnapRefusal.{SnapRefusal}
+use Rattle.book.specs.declared.refusals.SnapRefusal.TheVariants as snaps
+use Rattle.book.specs.Replies.{flush_reply, shrink_reply, snap_reply}
+use Rattle.replay.specs.Standing.{IsLane, Lanes, LanesHold, JobsStand, ShrinksStand, SnapStands, PlayerStands}
 use Rattle.replay.proofs.Lanes.{lanes_as, lanes_with}
 use Rattle.replay.proofs.InHand.{open_as}
 use Rattle.replay.proofs.Copies.{CopiesStay, shrinks_as}
+use Rattle.replay.proofs.Snaps.{SnapsStay, snap_as}
 
 abbrev pub StateGoesOn : Type 0
 StateGoesOn = (m : State) (h : List Event) (e : Event) → state_after m (h ++ e ∷ []) ≡ (step (state_after m h) e.pass e.call).0
@@ -69,39 +73,42 @@ module _ (goes_on : StateGoesOn) (start : State) (h : List Event) (pass : ℕ) (
   after_event P reply p = subst P (sym (goes_on start h (event pass call reply))) p
 
   -- the player stands for a history with one more event, where what it has in hand stands after the step
-  pub made : (p : Lanes) (new : Parts) (jobs : List Job) (copies : List Copy) (reply : Reply) → after.pins ≡ before.pins → JobsStand jobs after → ShrinksStand copies after
+  pub made : (p : Lanes) (new : Parts) (jobs : List Job) (copies : List Copy) (snap : Option Snapshot) (reply : Reply) → after.pins ≡ before.pins → JobsStand jobs after → ShrinksStand copies after → SnapStands snap after
       → PlayerStands p start h → After new start h pass call (Some reply)
-      → PlayerStands (record p { book = new; jobs = jobs; shrinks = copies }) start (with_event h pass call (Some reply))
-  made p new jobs copies reply pins js cs st told = record {
+      → PlayerStands (record p { book = new; jobs = jobs; shrinks = copies; snap = snap }) start (with_event h pass call (Some reply))
+  made p new jobs copies snap reply pins js cs s st told = record {
     book = told;
     pins = after_event (λ n. LanesHold p.pins n) reply (lanes_as p.pins before after pins st.pins);
     jobs = after_event (λ n. JobsStand jobs n) reply js;
     shrinks = after_event (λ n. ShrinksStand copies n) reply cs;
+    snap = after_event (λ n. SnapStands snap n) reply s;
   }
 
-  -- the same flushes and shrinks are open
-  pub steady_after : CopiesStay → IsLane pass → (p : Lanes) (new : Parts) (reply : Option Reply) → after.pins ≡ before.pins → ((s : ℕ) → open_flush after s ≡ open_flush before s)
-      → ((s : ℕ) → open_shrink after s ≡ open_shrink before s)
+  -- the same flushes, shrinks and snapshot are open
+  pub steady_after : CopiesStay → SnapsStay → IsLane pass → (p : Lanes) (new : Parts) (reply : Option Reply) → after.pins ≡ before.pins → ((s : ℕ) → open_flush after s ≡ open_flush before s)
+      → ((s : ℕ) → open_shrink after s ≡ open_shrink before s) → after.snap ≡ before.snap
       → PlayerStands p start h → After new start h pass call reply → PlayerStands (record p { book = new }) start (with_event h pass call reply)
-  steady_after stay is p new None pins flushes shrinks st told = record { book = told; pins = st.pins; jobs = st.jobs; shrinks = st.shrinks }
-  steady_after stay is p new (Some reply) pins flushes shrinks st told =
-      made p new p.jobs p.shrinks reply pins (open_as (λ (j : Job). j.slot) storage_of p.jobs (open_flush before) (open_flush after) flushes st.jobs) (shrinks_as stay before st.book.sound pass (is_pass pass is) call p.shrinks st.shrinks shrinks) st told
+  steady_after stay snaps is p new None pins flushes shrinks snap st told = record { book = told; pins = st.pins; jobs = st.jobs; shrinks = st.shrinks; snap = st.snap }
+  steady_after stay snaps is p new (Some reply) pins flushes shrinks snap st told =
+      made p new p.jobs p.shrinks p.snap reply pins (open_as (λ (j : Job). j.slot) storage_of p.jobs (open_flush before) (open_flush after) flushes st.jobs) (shrinks_as stay before st.book.sound pass (is_pass pass is) call p.shrinks st.shrinks shrinks)
+      (snap_as snaps before st.book.sound pass (is_pass pass is) call p.snap snap st.snap) st told
 
 -- a call of a lane that takes or gives back a pin
-module _ (goes_on : StateGoesOn) (stay : CopiesStay)
+module _ (goes_on : StateGoesOn) (stay : CopiesStay) (snaps : SnapsStay)
     (others : (m : State) (pass p : ℕ) (c : Call) → pass ≢ p → (id : ℕ) → count_by (is_pin p id) (step m pass c).0.pins ≡ count_by (is_pin p id) m.pins)
     (others_of : (m : State) (pass p : ℕ) (c : Call) → pass ≢ p → count_by (λ q. q.pass == p) (step m pass c).0.pins ≡ count_by (λ q. q.pass == p) m.pins)
     (start : State) (h : List Event) (lane : ℕ) (call : Call) where
   pub lane_after : (p : Lanes) (new : Parts) (after : Pins) (reply : Option Reply) → ((s : ℕ) → open_flush (step (state_after start h) lane call).0 s ≡ open_flush (state_after start h) s)
-      → ((s : ℕ) → open_shrink (step (state_after start h) lane call).0 s ≡ open_shrink (state_after start h) s) → IsLane lane → PlayerStands p start h → after.pass ≡ lane → AfterWithPins new after start h call reply
+      → ((s : ℕ) → open_shrink (step (state_after start h) lane call).0 s ≡ open_shrink (state_after start h) s) → (step (state_after start h) lane call).0.snap ≡ (state_after start h).snap → IsLane lane → PlayerStands p start h → after.pass ≡ lane → AfterWithPins new after start h call reply
       → PlayerStands (record p { book = new; pins = set p.pins (lane - 1) after }) start (with_event h lane call reply)
-  lane_after p new after None flushes shrinks is st same made = record {
+  lane_after p new after None flushes shrinks snap is st same made = record {
     book = made.stands;
     pins = lanes_with p.pins (state_after start h) (state_after start h) lane after is st.pins same made.pins (λ pass ne id. refl) (λ pass ne. refl);
     jobs = st.jobs;
     shrinks = st.shrinks;
+    snap = st.snap;
   }
-  lane_after p new after (Some reply) flushes shrinks is st same made =
+  lane_after p new after (Some reply) flushes shrinks snap is st same made =
       let m = state_after start h in
       let g = h ++ event lane call reply ∷ [] in
       let n = state_after start g in
@@ -113,6 +120,7 @@ module _ (goes_on : StateGoesOn) (stay : CopiesStay)
             (λ q ne. ap (λ (o : State). count_by (λ r. r.pass == q) o.pins) to ∙ others_of m lane q call ne);
         jobs = after_event goes_on start h lane call (λ o. JobsStand p.jobs o) reply (open_as (λ (j : Job). j.slot) storage_of p.jobs (open_flush m) (open_flush (step m lane call).0) flushes st.jobs);
         shrinks = after_event goes_on start h lane call (λ o. ShrinksStand p.shrinks o) reply (shrinks_as stay m st.book.sound lane (is_pass lane is) call p.shrinks st.shrinks shrinks);
+        snap = after_event goes_on start h lane call (λ o. SnapStands p.snap o) reply (snap_as snaps m st.book.sound lane (is_pass lane is) call p.snap snap st.snap);
       }
 
 -- a flush begins only where none of its slot was open
@@ -139,22 +147,23 @@ with_none on legal start h pass call refusal p nothing st =
       pins = subst (λ (n : State). LanesHold p.pins n) same st.pins;
       jobs = subst (λ (n : State). JobsStand p.jobs n) same st.jobs;
       shrinks = subst (λ (n : State). ShrinksStand p.shrinks n) same st.shrinks;
+      snap = subst (λ (n : State). SnapStands p.snap n) same st.snap;
     }
 
 -- a begin that is refused changes nothing
 abbrev pub BeginRefused : (ℕ → Call) → Type 0
 BeginRefused begin = (m : State) (pass slot : ℕ) (refusal : Refusal) → (step m pass (begin slot)).1 ≡ Refused refusal → (step m pass (begin slot)).0 ≡ m
 
-module _ (on : StateGoesOn) (stay : CopiesStay) (each_legal : EachLegal) (p : Lanes) (new : Parts) (start : State) (h : List Event) (pass slot : ℕ) (is : IsLane pass) (st : PlayerStands p start h) where
+module _ (on : StateGoesOn) (stay : CopiesStay) (snaps_stay : SnapsStay) (each_legal : EachLegal) (p : Lanes) (new : Parts) (start : State) (h : List Event) (pass slot : ℕ) (is : IsLane pass) (st : PlayerStands p start h) where
   begin_refused : (begin : ℕ → Call) → BeginRefused begin → (r : Refusal) → After new start h pass (begin slot) (Some (Refused r))
       → PlayerStands (record p { book = new }) start (with_event h pass (begin slot) (Some (Refused r)))
   begin_refused begin unchanged r after =
       let same = unchanged (state_after start h) pass slot r (last_reply each_legal start h pass (begin slot) (Refused r) after.legal) in
-      steady_after on start h pass (begin slot) stay is p new (Some (Refused r)) (ap (λ (n : State). n.pins) same) (λ s. ap (λ (n : State). open_flush n s) same)
-      (λ s. ap (λ (n : State). open_shrink n s) same) st after
+      steady_after on start h pass (begin slot) stay snaps_stay is p new (Some (Refused r)) (ap (λ (n : State). n.pins) same) (λ s. ap (λ (n : State). open_flush n s) same)
+      (λ s. ap (λ (n : State). open_shrink n s) same) (ap (λ (n : State). n.snap) same) st after
 
   none_begun : (call : Call) → After new start h pass call None → PlayerStands (record p { book = new }) start (with_event h pass call None)
-  none_begun call after = record { book = after; pins = st.pins; jobs = st.jobs; shrinks = st.shrinks }
+  none_begun call after = record { book = after; pins = st.pins; jobs = st.jobs; shrinks = st.shrinks; snap = st.snap }
 
   pub flush_refused : BeginRefused machine.FlushBegin → (refusal : FlushRefusal) → After new start h pass (machine.FlushBegin slot) (flush_reply (Err refusal))
       → PlayerStands (record p { book = new }) start (with_event h pass (machine.FlushBegin slot) (flush_reply (Err refusal)))
@@ -175,3 +184,11 @@ module _ (on : StateGoesOn) (stay : CopiesStay) (each_legal : EachLegal) (p : La
   shrink_refused unchanged (shrinks.NoCell limit) after = begin_refused machine.ShrinkBegin unchanged (machine.NoCell limit) after
   shrink_refused unchanged shrinks.IdsSpent after = begin_refused machine.ShrinkBegin unchanged machine.IdsSpent after
   shrink_refused unchanged shrinks.NoMemory after = none_begun (machine.ShrinkBegin slot) after
+
+  pub snap_refused : BeginRefused machine.SnapBegin → (refusal : SnapRefusal) → After new start h pass (machine.SnapBegin slot) (snap_reply (Err refusal))
+      → PlayerStands (record p { book = new }) start (with_event h pass (machine.SnapBegin slot) (snap_reply (Err refusal)))
+  snap_refused unchanged (snaps.SnapOpen s) after = begin_refused machine.SnapBegin unchanged (machine.SnapOpen s) after
+  snap_refused unchanged (snaps.NotRoot s) after = begin_refused machine.SnapBegin unchanged (machine.NotRoot s) after
+  snap_refused unchanged (snaps.SnapTooOld s cleaned) after = begin_refused machine.SnapBegin unchanged (machine.SnapTooOld s cleaned) after
+  snap_refused unchanged (snaps.Unflushed s) after = begin_refused machine.SnapBegin unchanged (machine.Unflushed s) after
+  snap_refused unchanged snaps.NoMemory after = none_begun (machine.SnapBegin slot) after

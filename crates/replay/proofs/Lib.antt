@@ -1,6 +1,7 @@
 pub mod Lanes
 pub mod InHand
 pub mod Copies
+pub mod Snaps
 pub mod NoPins
 pub mod GoingOn
 pub mod Found

@@ -1,4 +1,4 @@
--- A player whose lanes have no pins in hand, and no flush and no shrink either.
+-- A player whose lanes have no pins in hand, and no flush, no shrink and no snapshot either.
 use Rattle.std.proofs.Common.{◌≡◌, ℕ, zero, suc, ◌+◌, ◌<◌, ◌==◌, ◌&&◌, not, cond, IsFalse, List, [], ◌∷◌, ◌++◌, length, find, Some, None, refl, sym, ap, subst, ◌∙◌, ◌⊎◌, inl, inr, arith, count_by, slice_get}
 use Rattle.std.specs.List.{AllByRecursion}
 use Rattle.std.proofs.lemmas.Bool.{and_left}
@@ -77,9 +77,9 @@ no_pins m i p quiet lt is =
       },
     )
 
--- a book in whose state nobody has anything pinned, and no flush or shrink is open
+-- a book in whose state nobody has anything pinned, and no flush, shrink or snapshot is open
 pub unpinned_stands : (b : Parts) (pins : List Pins) (jobs : List Job) (copies : List Copy) (start : State) (h : List Event) → HaveNoPins pins → jobs ≡ [] → copies ≡ [] → Stands b start h → IsQuiet (state_after start h)
-    → PlayerStands (record { book = b; pins = pins; jobs = jobs; shrinks = copies }) start h
+    → PlayerStands (record { book = b; pins = pins; jobs = jobs; shrinks = copies; snap = None }) start h
 unpinned_stands b pins jobs copies start h none empty bare st quiet = record {
   book = st;
   pins = record {
@@ -88,6 +88,7 @@ unpinned_stands b pins jobs copies start h none empty bare st quiet = record {
   };
   jobs = no_jobs jobs (state_after start h) empty quiet;
   shrinks = no_shrinks copies (state_after start h) bare quiet;
+  snap = quiet.snap;
 }
 
 pub none_first : (pins : List Pins) → pins ≡ [] → FirstHaveNone 0 pins

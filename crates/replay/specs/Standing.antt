@@ -1,4 +1,4 @@
--- What a player stands for: a history of its book, the pins of its lanes, and the flushes and shrinks that it has begun.
+-- What a player stands for: a history of its book, the pins of its lanes, and the flushes, shrinks and the snapshot that it has begun.
 use Rattle.std.specs.Prelude.{◌≡◌, ℕ, ◌+◌, ◌<◌, ◌≤◌, ◌==◌, Bool, List, [], ◌++◌, length, map, find, count_by, Option, Some, None, option_map, Result, Ok, Err, IsFalse, All, slice_get}
 use Rattle.std.specs.declared.alloc.AllocError.{AllocError}
 use Rattle.adb_model.specs.State.{State}
@@ -13,6 +13,7 @@ use Rattle.pass_pins.specs.Pins.{Pins}
 use Rattle.book_parts.specs.Parts.{Parts}
 use Rattle.book_parts.specs.Pins.{HoldsPins}
 use Rattle.book_parts.specs.Shrinks.{Copy, shrink_of, IsOpenCopy}
+use Rattle.book_parts.specs.Snaps.{Snapshot, IsOpenSnap}
 use Rattle.book_parts.specs.Stands.{Stands}
 use Rattle.flush_plan.specs.Jobs.{Job, storage_of}
 
@@ -30,12 +31,13 @@ abbrev pub FewerLeft : machine.Call → machine.Reply → Parts → Parts → Ty
 FewerLeft call reply old new = (after : Option (List ℕ)) (most : ℕ) (key : List ℕ) → call ≡ machine.Reclaim after most → reply ≡ machine.Reclaimed key
     → length (crowded_after new.index (Some key)) < length (crowded_after old.index after)
 
--- what contracts see of a player: its book, the pins of lane 1, of lane 2, and so on, and the flushes and the shrinks in hand
+-- what contracts see of a player: its book, the pins of lane 1, of lane 2, and so on, and the flushes, the shrinks and the snapshot in hand
 pub record Lanes : Type 0 where
   pub book : Parts
   pub pins : List Pins
   pub jobs : List Job
   pub shrinks : List Copy
+  pub snap : Option Snapshot
 
 -- there are 64 lanes, and each has in hand what its pass has pinned
 pub record LanesHold (pins : List Pins) (m : State) : Type 0 where
@@ -64,12 +66,18 @@ pub record ShrinksStand (shrinks : List Copy) (m : State) : Type 0 where
   pub opened : AreOpen (λ (copy : Copy). copy.slot) shrink_of shrinks (open_shrink m)
   pub copies : All (λ copy. IsOpenCopy copy m) shrinks
 
+-- the snapshot in hand is the one that is open, and where there is none, none is
+abbrev pub SnapStands : Option Snapshot → State → Type 0
+SnapStands None m = m.snap ≡ None
+SnapStands (Some job) m = IsOpenSnap job m
+
 -- the player stands for this history from this start
 pub record PlayerStands (p : Lanes) (start : State) (history : List machine.Event) : Type 0 where
   pub book : Stands p.book start history
   pub pins : LanesHold p.pins (state_after start history)
   pub jobs : JobsStand p.jobs (state_after start history)
   pub shrinks : ShrinksStand p.shrinks (state_after start history)
+  pub snap : SnapStands p.snap (state_after start history)
 
 -- the player stands for some history
 pub record HasHistory (p : Lanes) : Type 0 where

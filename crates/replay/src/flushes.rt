@@ -3,10 +3,8 @@ ghost use Rattle.std.specs.Prelude.{◌≡◌, ◌<◌, ◌≤◌, ◌++◌, ◌
 ghost use Rattle.std.specs.Vec.{vec_capacity};
 ghost use Rattle.adb_model.specs.State.{State};
 ghost use Rattle.adb_model.specs.Call as machine;
-ghost use Rattle.pass_pins.specs.Pins.{Pins};
-ghost use Rattle.book_parts.specs.Shrinks.{Copy};
 ghost use Rattle.book_parts.specs.Stands.{with_event};
-ghost use Rattle.replay.specs.Standing.{IsLane, PlayerStands, HasHistory, is_of, told};
+ghost use Rattle.replay.specs.Standing.{IsLane, Lanes, PlayerStands, HasHistory, is_of, told};
 
 use crate::laws::flushes_go_on;
 use crate::replies::{flush_refused, refused};
@@ -35,8 +33,8 @@ fn put(jobs: &mut Vec<FlushJob>, job: FlushJob)
 
 /// Begins to flush a slot. After want of memory nothing has changed.
 pub fn begin(book: &mut Book, jobs: &mut Vec<FlushJob>, slot: Slot) -> Result<Reply, AllocError>
-    ensures { (pins : List Pins) (shrinks : List Copy) (start : State) (h : List machine.Event) (pass : ℕ) → IsLane pass → PlayerStands (record { book = book.old; pins = pins; jobs = jobs.old.items; shrinks = shrinks }) start h
-        → PlayerStands (record { book = book.new; pins = pins; jobs = jobs.new.items; shrinks = shrinks }) start (with_event h pass (machine.FlushBegin slot) (told result)) }
+    ensures { (p : Lanes) (start : State) (h : List machine.Event) (pass : ℕ) → IsLane pass → PlayerStands (record p { book = book.old; jobs = jobs.old.items }) start h
+        → PlayerStands (record p { book = book.new; jobs = jobs.new.items }) start (with_event h pass (machine.FlushBegin slot) (told result)) }
 {
     flushes_go_on();
     jobs.reserve(1)?;
@@ -64,9 +62,9 @@ pub fn end<R: AllocGlobal>(
 ) -> Result<Reply, AllocError>
     requires some_worker { 1 ≤ workers }
     requires few_workers { workers ≤ 16 }
-    requires some { (pins : List Pins) × (shrinks : List Copy) × HasHistory (record { book = book.old; pins = pins; jobs = jobs.old.items; shrinks = shrinks }) }
-    ensures { (pins : List Pins) (shrinks : List Copy) (start : State) (h : List machine.Event) (pass : ℕ) → IsLane pass → PlayerStands (record { book = book.old; pins = pins; jobs = jobs.old.items; shrinks = shrinks }) start h
-        → PlayerStands (record { book = book.new; pins = pins; jobs = jobs.new.items; shrinks = shrinks }) start (with_event h pass (machine.FlushEnd slot) (told result)) }
+    requires some { (p : Lanes) × HasHistory (record p { book = book.old; jobs = jobs.old.items }) }
+    ensures { (p : Lanes) (start : State) (h : List machine.Event) (pass : ℕ) → IsLane pass → PlayerStands (record p { book = book.old; jobs = jobs.old.items }) start h
+        → PlayerStands (record p { book = book.new; jobs = jobs.new.items }) start (with_event h pass (machine.FlushEnd slot) (told result)) }
 {
     flushes_go_on();
     let Some(place) = place_of(jobs, slot) else {
@@ -81,9 +79,9 @@ pub fn end<R: AllocGlobal>(
 
 /// Gives the flush of a slot up. Where there is none in hand, it is refused.
 pub fn abort(book: &mut Book, jobs: &mut Vec<FlushJob>, slot: Slot) -> Result<Reply, AllocError>
-    requires { (pins : List Pins) × (shrinks : List Copy) × HasHistory (record { book = book.old; pins = pins; jobs = jobs.old.items; shrinks = shrinks }) }
-    ensures { (pins : List Pins) (shrinks : List Copy) (start : State) (h : List machine.Event) (pass : ℕ) → IsLane pass → PlayerStands (record { book = book.old; pins = pins; jobs = jobs.old.items; shrinks = shrinks }) start h
-        → PlayerStands (record { book = book.new; pins = pins; jobs = jobs.new.items; shrinks = shrinks }) start (with_event h pass (machine.FlushAbort slot) (told result)) }
+    requires { (p : Lanes) × HasHistory (record p { book = book.old; jobs = jobs.old.items }) }
+    ensures { (p : Lanes) (start : State) (h : List machine.Event) (pass : ℕ) → IsLane pass → PlayerStands (record p { book = book.old; jobs = jobs.old.items }) start h
+        → PlayerStands (record p { book = book.new; jobs = jobs.new.items }) start (with_event h pass (machine.FlushAbort slot) (told result)) }
 {
     flushes_go_on();
     let Some(place) = place_of(jobs, slot) else {

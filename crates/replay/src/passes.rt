@@ -5,10 +5,8 @@ ghost use Rattle.adb_model.specs.Call as machine;
 ghost use Rattle.adb_model.specs.History.{state_after};
 ghost use Rattle.vec_scan.specs.Seal.{row_at, row_there};
 ghost use Rattle.book_parts.specs.Pins.{HoldsPins};
-ghost use Rattle.book_parts.specs.Shrinks.{Copy};
 ghost use Rattle.book_parts.specs.Stands.{Stands, AfterWithPins, HasHistoryWithPins, with_event};
-ghost use Rattle.flush_plan.specs.Jobs.{Job};
-ghost use Rattle.replay.specs.Standing.{IsLane, PlayerStands, HasHistory, told};
+ghost use Rattle.replay.specs.Standing.{IsLane, Lanes, PlayerStands, HasHistory, told};
 
 use crate::laws::lanes_go_on;
 use crate::replies::{load_refused, unpinned};
@@ -77,9 +75,9 @@ pub fn load(
     key: &Key,
 ) -> Result<Reply, AllocError>
     requires lane { IsLane lane }
-    requires some { (jobs : List Job) × (shrinks : List Copy) × HasHistory (record { book = book.old; pins = pins.old.items; jobs = jobs; shrinks = shrinks }) }
-    ensures { (jobs : List Job) (shrinks : List Copy) (start : State) (h : List machine.Event) → PlayerStands (record { book = book.old; pins = pins.old.items; jobs = jobs; shrinks = shrinks }) start h
-        → PlayerStands (record { book = book.new; pins = pins.new.items; jobs = jobs; shrinks = shrinks }) start (with_event h lane (machine.Load view.now key.now.0) (told result)) }
+    requires some { (p : Lanes) × HasHistory (record p { book = book.old; pins = pins.old.items }) }
+    ensures { (p : Lanes) (start : State) (h : List machine.Event) → PlayerStands (record p { book = book.old; pins = pins.old.items }) start h
+        → PlayerStands (record p { book = book.new; pins = pins.new.items }) start (with_event h lane (machine.Load view.now key.now.0) (told result)) }
 {
     lanes_go_on();
     let pins = &mut pins[lane as usize - 1];
@@ -94,9 +92,9 @@ pub fn unpin(
     id: u64,
 ) -> Result<Reply, AllocError>
     requires lane { IsLane lane }
-    requires some { (jobs : List Job) × (shrinks : List Copy) × HasHistory (record { book = book.old; pins = pins.old.items; jobs = jobs; shrinks = shrinks }) }
-    ensures { (jobs : List Job) (shrinks : List Copy) (start : State) (h : List machine.Event) → PlayerStands (record { book = book.old; pins = pins.old.items; jobs = jobs; shrinks = shrinks }) start h
-        → PlayerStands (record { book = book.new; pins = pins.new.items; jobs = jobs; shrinks = shrinks }) start (with_event h lane (machine.Unpin id) (told result)) }
+    requires some { (p : Lanes) × HasHistory (record p { book = book.old; pins = pins.old.items }) }
+    ensures { (p : Lanes) (start : State) (h : List machine.Event) → PlayerStands (record p { book = book.old; pins = pins.old.items }) start h
+        → PlayerStands (record p { book = book.new; pins = pins.new.items }) start (with_event h lane (machine.Unpin id) (told result)) }
 {
     lanes_go_on();
     let pins = &mut pins[lane as usize - 1];

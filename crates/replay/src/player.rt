@@ -9,9 +9,9 @@ ghost use Rattle.replay.specs.Standing.{IsLane, IsOfFewKeys, IsQuiet, PlayerStan
 use crate::laws::lanes_go_on;
 use crate::passes::{load, unpin};
 use crate::replies::{lease_ended, leased, purged, raised, reclaimed, rooted, stored};
-use crate::{flushes, shrinking};
+use crate::{flushes, shrinking, snapping};
 use adb_model::{Call, Reply};
-use book::Book;
+use book::{Book, SnapJob};
 use flush_plan::FlushJob;
 use pass_pins::PassPins;
 use shrink_plan::ShrinkJob;
@@ -31,6 +31,8 @@ pub struct Player {
     jobs: Vec<FlushJob>,
     // The shrinks that have begun and are open.
     shrinks: Vec<ShrinkJob>,
+    // The snapshot that has begun and is open.
+    snap: Option<SnapJob>,
 }
 
 impl Model for Player {
@@ -38,9 +40,9 @@ impl Model for Player {
 
     ghost Value = { Lanes };
 
-    ghost view = { λ p. record { book = p.book; pins = p.pins.items; jobs = p.jobs.items; shrinks = p.shrinks.items } };
+    ghost view = { λ p. record { book = p.book; pins = p.pins.items; jobs = p.jobs.items; shrinks = p.shrinks.items; snap = p.snap } };
 
-    ghost invariant = { λ p. HasHistory (record { book = p.book; pins = p.pins.items; jobs = p.jobs.items; shrinks = p.shrinks.items }) };
+    ghost invariant = { λ p. HasHistory (record { book = p.book; pins = p.pins.items; jobs = p.jobs.items; shrinks = p.shrinks.items; snap = p.snap }) };
 }
 
 // Makes one event. So many workers fill the storage of a flush that ends.
@@ -50,6 +52,7 @@ fn step_filled<R: AllocGlobal>(
     pins: &mut Vec<PassPins>,
     jobs: &mut Vec<FlushJob>,
     shrinks: &mut Vec<ShrinkJob>,
+    snap: &mut Option<SnapJob>,
     lane: u64,
     call: &Call,
     workers: usize,
@@ -58,9 +61,9 @@ fn step_filled<R: AllocGlobal>(
     requires some_worker { 1 ≤ workers }
     requires few_workers { workers ≤ 16 }
     requires few_keys { IsOfFewKeys (call_of call.now) }
-    requires some { HasHistory (record { book = book.old; pins = pins.old.items; jobs = jobs.old.items; shrinks = shrinks.old.items }) }
-    ensures stands { (start : State) (h : List machine.Event) → PlayerStands (record { book = book.old; pins = pins.old.items; jobs = jobs.old.items; shrinks = shrinks.old.items }) start h
-        → PlayerStands (record { book = book.new; pins = pins.new.items; jobs = jobs.new.items; shrinks = shrinks.new.items }) start (with_event h lane (call_of call.now) (told result)) }
+    requires some { HasHistory (record { book = book.old; pins = pins.old.items; jobs = jobs.old.items; shrinks = shrinks.old.items; snap = snap.old }) }
+    ensures stands { (start : State) (h : List machine.Event) → PlayerStands (record { book = book.old; pins = pins.old.items; jobs = jobs.old.items; shrinks = shrinks.old.items; snap = snap.old }) start h
+        → PlayerStands (record { book = book.new; pins = pins.new.items; jobs = jobs.new.items; shrinks = shrinks.new.items; snap = snap.new }) start (with_event h lane (call_of call.now) (told result)) }
     ensures fewer { IfOk result (λ reply. FewerLeft (call_of call.now) (reply_of reply) book.old book.new) }
 {
     lanes_go_on();
@@ -80,6 +83,8 @@ fn step_filled<R: AllocGlobal>(
         Call::ShrinkBegin { slot } => shrinking::begin(book, shrinks, *slot),
         Call::ShrinkEnd { slot } => shrinking::end(rt, book, shrinks, *slot),
         Call::ShrinkAbort { slot } => shrinking::abort(book, shrinks, *slot),
+        Call::SnapBegin { slot } => snapping::begin(book, snap, *slot),
+        Call::SnapEnd { slot } => snapping::end(book, snap, *slot),
         Call::Recycle => Ok(Reply::Recycled {
             storages: book.recycle(),
         }),
@@ -104,6 +109,7 @@ impl Player {
             pins,
             jobs,
             shrinks,
+            snap: None,
         })
     }
 
@@ -152,6 +158,7 @@ impl Player {
             &mut self.pins,
             &mut self.jobs,
             &mut self.shrinks,
+            &mut self.snap,
             lane,
             call,
             workers,

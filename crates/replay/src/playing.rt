@@ -4,7 +4,7 @@ ghost use Rattle.adb_model.specs.Call as machine;
 ghost use Rattle.adb_model.specs.Plays.{next_call};
 ghost use Rattle.adb_model.specs.Seen.{call_of, reply_of};
 ghost use Rattle.script.specs.Grammar.{IsScript};
-ghost use Rattle.script.specs.Said.{line_played, order_played};
+ghost use Rattle.script.specs.Said.{budget_of, line_played, order_played};
 ghost use Rattle.script.specs.Seen.{line_seen, order_seen, script_seen};
 ghost use Rattle.stream_io.specs.Stream.{Rose};
 ghost use Rattle.replay.specs.Standing.{IsLane, IsOfFewKeys, PlayerStands, FewerLeft};
@@ -67,6 +67,7 @@ fn play_call<R: AllocGlobal, K: Sink>(
     ensures fewer { IfOk result (λ reply. FewerLeft (call_of call.now) (reply_of reply) player.old.book player.new.book) }
     ensures later { K.faults sink.old ≤ K.faults sink.new }
     ensures kept { OnOk result (K.faults sink.new ≡ K.faults sink.old) }
+    ensures unfailed { IsErrOf result Stop.NoMemory → K.faults sink.new ≡ K.faults sink.old }
     ensures cause { IsErrOf result Stop.SinkFault → Rose (K.faults sink.old) (K.faults sink.new) }
 {
     // Whatever stops it, the history with this call's event is legal.
@@ -138,6 +139,7 @@ fn play_from<R: AllocGlobal, K: Sink>(
         → OnErr result (CutLine start history (K.taken sink.old) (K.taken sink.new) (line_played (line_seen line.now))) }
     ensures later { K.faults sink.old ≤ K.faults sink.new }
     ensures kept { OnOk result (K.faults sink.new ≡ K.faults sink.old) }
+    ensures unfailed { IsErrOf result Stop.NoMemory → K.faults sink.new ≡ K.faults sink.old }
     ensures cause { IsErrOf result Stop.SinkFault → Rose (K.faults sink.old) (K.faults sink.new) }
 {
     histories_go_on();
@@ -166,6 +168,7 @@ fn play_line<R: AllocGlobal, K: Sink>(
         → OnErr result (CutLine start history (K.taken sink.old) (K.taken sink.new) (line_played (line_seen line.now))) }
     ensures later { K.faults sink.old ≤ K.faults sink.new }
     ensures kept { OnOk result (K.faults sink.new ≡ K.faults sink.old) }
+    ensures unfailed { IsErrOf result Stop.NoMemory → K.faults sink.new ≡ K.faults sink.old }
     ensures cause { IsErrOf result Stop.SinkFault → Rose (K.faults sink.old) (K.faults sink.new) }
 {
     histories_go_on();
@@ -207,6 +210,7 @@ fn play_lines<R: AllocGlobal, K: Sink>(
         → OnErr result (CutShort before (K.taken sink.new) (record { budget = budget; lines = map line_seen lines.now })) }
     ensures later { K.faults sink.old ≤ K.faults sink.new }
     ensures kept { OnOk result (K.faults sink.new ≡ K.faults sink.old) }
+    ensures unfailed { IsErrOf result Stop.NoMemory → K.faults sink.new ≡ K.faults sink.old }
     ensures cause { IsErrOf result Stop.SinkFault → Rose (K.faults sink.old) (K.faults sink.new) }
 {
     for line in lines {
@@ -223,20 +227,26 @@ fn fresh_player(alloc: Global, budget: u64) -> Result<Player, AllocError>
     Player::new(alloc, book)
 }
 
-// The header's line, and the events of all lines.
-fn play_script<R: AllocGlobal, K: Sink>(rt: &R, script: &Script, sink: &mut K) -> Result<(), Stop>
-    requires { All (λ line. IsPlayable (line_seen line)) script.now.lines.items }
+// The header's line, and the events of all lines, by a player who has played none.
+fn play_script<R: AllocGlobal, K: Sink>(
+    rt: &R,
+    player: &mut Player,
+    script: &Script,
+    sink: &mut K,
+) -> Result<(), Stop>
+    requires lines { All (λ line. IsPlayable (line_seen line)) script.now.lines.items }
+    requires fresh { PlayerStands player.old (fresh (budget_of script.now.budget) 1) [] }
     ensures ok { OnOk result (PlayedAll (K.taken sink.old) (K.taken sink.new) (script_seen script.now)) }
     ensures err { OnErr result (CutShort (K.taken sink.old) (K.taken sink.new) (script_seen script.now)) }
     ensures later { K.faults sink.old ≤ K.faults sink.new }
     ensures kept { OnOk result (K.faults sink.new ≡ K.faults sink.old) }
+    ensures unfailed { IsErrOf result Stop.NoMemory → K.faults sink.new ≡ K.faults sink.old }
     ensures cause { IsErrOf result Stop.SinkFault → Rose (K.faults sink.old) (K.faults sink.new) }
 {
-    let mut player = fresh_player(rt.alloc(), script.byte_budget())?;
     let mut printer = JournalPrinter::new(rt.alloc());
     let header = printer.print_header(script.budget)?;
     write_whole(sink, header)?;
-    play_lines(rt, &mut player, &script.lines, &mut printer, sink)
+    play_lines(rt, player, &script.lines, &mut printer, sink)
 }
 
 /// Makes the events of a script's lines in order, from the fresh state with the script's budget. It hands the
@@ -251,12 +261,35 @@ pub fn run_replay<R: AllocGlobal, K: Sink>(rt: &R, script: &Script, sink: &mut K
     ensures done { result ≡ 0 → PlayedAll (K.taken sink.old) (K.taken sink.new) (script_seen script.now) }
     ensures cut { (result ≡ 4) ⊎ (result ≡ 6) → CutShort (K.taken sink.old) (K.taken sink.new) (script_seen script.now) }
     ensures later { K.faults sink.old ≤ K.faults sink.new }
-    ensures kept { result ≡ 0 → K.faults sink.new ≡ K.faults sink.old }
+    ensures kept { (result ≡ 0) ⊎ (result ≡ 6) → K.faults sink.new ≡ K.faults sink.old }
     ensures sink_fault { result ≡ 4 → Rose (K.faults sink.old) (K.faults sink.new) }
 {
-    match play_script(rt, script, sink) {
+    let (status, _player) = run_replay_with_player(rt, script, sink);
+    status
+}
+
+/// As [`run_replay`], and hands the player back, unless there was no memory for one. A program that ends then can
+/// forget it: to give back all that its book has takes time.
+pub fn run_replay_with_player<R: AllocGlobal, K: Sink>(
+    rt: &R,
+    script: &Script,
+    sink: &mut K,
+) -> (u8, Option<Player>)
+    requires { (bytes : List ℕ) × IsScript bytes (script_seen script.now) }
+    ensures which { (result.0 ≡ 0) ⊎ ((result.0 ≡ 4) ⊎ (result.0 ≡ 6)) }
+    ensures done { result.0 ≡ 0 → PlayedAll (K.taken sink.old) (K.taken sink.new) (script_seen script.now) }
+    ensures cut { (result.0 ≡ 4) ⊎ (result.0 ≡ 6) → CutShort (K.taken sink.old) (K.taken sink.new) (script_seen script.now) }
+    ensures later { K.faults sink.old ≤ K.faults sink.new }
+    ensures kept { (result.0 ≡ 0) ⊎ (result.0 ≡ 6) → K.faults sink.new ≡ K.faults sink.old }
+    ensures sink_fault { result.0 ≡ 4 → Rose (K.faults sink.old) (K.faults sink.new) }
+{
+    let Ok(mut player) = fresh_player(rt.alloc(), script.byte_budget()) else {
+        return (6, None);
+    };
+    let status = match play_script(rt, &mut player, script, sink) {
         Ok(()) => 0,
         Err(Stop::SinkFault) => 4,
         Err(Stop::NoMemory) => 6,
-    }
+    };
+    (status, Some(player))
 }

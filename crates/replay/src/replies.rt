@@ -1,12 +1,12 @@
 ghost use Rattle.std.specs.Prelude.{◌≡◌, Some, Err, option_map};
 ghost use Rattle.adb_model.specs.Seen.{reply_of};
-ghost use Rattle.book.specs.Replies.{store_reply, root_reply, purge_reply, load_reply, unpin_reply, lease_reply, end_lease_reply, raise_reply, reclaim_reply, flush_reply, shrink_reply, shrink_end_reply};
+ghost use Rattle.book.specs.Replies.{store_reply, root_reply, purge_reply, load_reply, unpin_reply, lease_reply, end_lease_reply, raise_reply, reclaim_reply, flush_reply, shrink_reply, shrink_end_reply, snap_reply};
 ghost use Rattle.replay.specs.Standing.{told};
 
 use adb_model::{Key, Refusal, Reply, Slot};
 use book::{
     FlushRefusal, LeaseRefusal, LoadRefusal, NotLeased, NotPinned, RaiseRefusal, RootRefusal,
-    Rooted, ShrinkDone, ShrinkRefusal, StoreRefusal,
+    Rooted, ShrinkDone, ShrinkRefusal, SnapRefusal, StoreRefusal,
 };
 use std::alloc::AllocError;
 
@@ -173,5 +173,18 @@ pub fn shrink_ended(done: ShrinkDone) -> Reply
     match done {
         ShrinkDone::Installed => Reply::Done,
         ShrinkDone::Superseded { slot, old } => Reply::Superseded { slot, old },
+    }
+}
+
+/// The reply to the begin of a snapshot that was refused.
+pub fn snap_refused(refusal: SnapRefusal) -> Result<Reply, AllocError>
+    ensures { told result ≡ snap_reply (Err refusal) }
+{
+    match refusal {
+        SnapRefusal::SnapOpen { slot } => refused(Refusal::SnapOpen { slot }),
+        SnapRefusal::NotRoot { slot } => refused(Refusal::NotRoot { slot }),
+        SnapRefusal::SnapTooOld { slot, cleaned } => refused(Refusal::SnapTooOld { slot, cleaned }),
+        SnapRefusal::Unflushed { slot } => refused(Refusal::Unflushed { slot }),
+        SnapRefusal::NoMemory => Err(AllocError),
     }
 }

@@ -3,10 +3,8 @@ ghost use Rattle.std.specs.Prelude.{◌≡◌, ◌<◌, ◌++◌, ◌∷◌, [],
 ghost use Rattle.std.specs.Vec.{vec_capacity};
 ghost use Rattle.adb_model.specs.State.{State};
 ghost use Rattle.adb_model.specs.Call as machine;
-ghost use Rattle.pass_pins.specs.Pins.{Pins};
 ghost use Rattle.book_parts.specs.Stands.{with_event};
-ghost use Rattle.flush_plan.specs.Jobs.{Job};
-ghost use Rattle.replay.specs.Standing.{IsLane, PlayerStands, HasHistory, is_shrink_of, told};
+ghost use Rattle.replay.specs.Standing.{IsLane, Lanes, PlayerStands, HasHistory, is_shrink_of, told};
 
 use crate::laws::shrinks_go_on;
 use crate::replies::{refused, shrink_ended, shrink_refused};
@@ -35,8 +33,8 @@ fn put(shrinks: &mut Vec<ShrinkJob>, job: ShrinkJob)
 
 /// Begins to shrink a slot's storage. After want of memory nothing has changed.
 pub fn begin(book: &mut Book, shrinks: &mut Vec<ShrinkJob>, slot: Slot) -> Result<Reply, AllocError>
-    ensures { (pins : List Pins) (jobs : List Job) (start : State) (h : List machine.Event) (pass : ℕ) → IsLane pass → PlayerStands (record { book = book.old; pins = pins; jobs = jobs; shrinks = shrinks.old.items }) start h
-        → PlayerStands (record { book = book.new; pins = pins; jobs = jobs; shrinks = shrinks.new.items }) start (with_event h pass (machine.ShrinkBegin slot) (told result)) }
+    ensures { (p : Lanes) (start : State) (h : List machine.Event) (pass : ℕ) → IsLane pass → PlayerStands (record p { book = book.old; shrinks = shrinks.old.items }) start h
+        → PlayerStands (record p { book = book.new; shrinks = shrinks.new.items }) start (with_event h pass (machine.ShrinkBegin slot) (told result)) }
 {
     shrinks_go_on();
     shrinks.reserve(1)?;
@@ -62,9 +60,9 @@ pub fn end<R: AllocGlobal>(
     shrinks: &mut Vec<ShrinkJob>,
     slot: Slot,
 ) -> Result<Reply, AllocError>
-    requires { (pins : List Pins) × (jobs : List Job) × HasHistory (record { book = book.old; pins = pins; jobs = jobs; shrinks = shrinks.old.items }) }
-    ensures { (pins : List Pins) (jobs : List Job) (start : State) (h : List machine.Event) (pass : ℕ) → IsLane pass → PlayerStands (record { book = book.old; pins = pins; jobs = jobs; shrinks = shrinks.old.items }) start h
-        → PlayerStands (record { book = book.new; pins = pins; jobs = jobs; shrinks = shrinks.new.items }) start (with_event h pass (machine.ShrinkEnd slot) (told result)) }
+    requires { (p : Lanes) × HasHistory (record p { book = book.old; shrinks = shrinks.old.items }) }
+    ensures { (p : Lanes) (start : State) (h : List machine.Event) (pass : ℕ) → IsLane pass → PlayerStands (record p { book = book.old; shrinks = shrinks.old.items }) start h
+        → PlayerStands (record p { book = book.new; shrinks = shrinks.new.items }) start (with_event h pass (machine.ShrinkEnd slot) (told result)) }
 {
     shrinks_go_on();
     let Some(place) = place_of(shrinks, slot) else {
@@ -79,9 +77,9 @@ pub fn end<R: AllocGlobal>(
 
 /// Gives the shrink of a slot up. Where there is none in hand, it is refused.
 pub fn abort(book: &mut Book, shrinks: &mut Vec<ShrinkJob>, slot: Slot) -> Result<Reply, AllocError>
-    requires { (pins : List Pins) × (jobs : List Job) × HasHistory (record { book = book.old; pins = pins; jobs = jobs; shrinks = shrinks.old.items }) }
-    ensures { (pins : List Pins) (jobs : List Job) (start : State) (h : List machine.Event) (pass : ℕ) → IsLane pass → PlayerStands (record { book = book.old; pins = pins; jobs = jobs; shrinks = shrinks.old.items }) start h
-        → PlayerStands (record { book = book.new; pins = pins; jobs = jobs; shrinks = shrinks.new.items }) start (with_event h pass (machine.ShrinkAbort slot) (told result)) }
+    requires { (p : Lanes) × HasHistory (record p { book = book.old; shrinks = shrinks.old.items }) }
+    ensures { (p : Lanes) (start : State) (h : List machine.Event) (pass : ℕ) → IsLane pass → PlayerStands (record p { book = book.old; shrinks = shrinks.old.items }) start h
+        → PlayerStands (record p { book = book.new; shrinks = shrinks.new.items }) start (with_event h pass (machine.ShrinkAbort slot) (told result)) }
 {
     shrinks_go_on();
     let Some(place) = place_of(shrinks, slot) else {

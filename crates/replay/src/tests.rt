@@ -73,6 +73,8 @@ fn any_call(alloc: Global, numbers: &mut Numbers, base: Slot) -> Result<Call, Fa
         45 | 46 => Ok(Call::ShrinkEnd { slot: root }),
         47 => Ok(Call::ShrinkAbort { slot: root }),
         48 => Ok(Call::Recycle),
+        49 | 50 => Ok(Call::SnapBegin { slot: root }),
+        51 => Ok(Call::SnapEnd { slot: root }),
         _ => {
             let ancestors = [numbers.below(SLOTS), slot];
             Ok(Call::Load {
@@ -113,6 +115,7 @@ fn told_by(reply: &Reply) -> Told {
         Reply::Found { slot, account, .. } => Told::Found(*slot, account.head().lamports),
         Reply::FlushBegun { .. } | Reply::ShrinkBegun { .. } => Told::Other,
         Reply::Superseded { .. } | Reply::Recycled { .. } => Told::Other,
+        Reply::SnapBegun { .. } => Told::Other,
         Reply::Raised { cleaned } => Told::Raised(*cleaned),
         Reply::Reclaimed { .. } | Reply::NothingLeft => Told::Other,
         Reply::Counted { stats } => Told::Present(stats.cached.wrapping_add(stats.named)),

@@ -7,8 +7,8 @@ use Rattle.replay.proofs.InHand.{found_at, not_found}
 use Rattle.replay.proofs.flushes.end.Goals as goal
 
 pub returns-in_default : goal.returns-in_default
-returns-in_default g c pins shrinks start h pass is st =
-    subst (λ (r : Option machine.Reply). PlayerStands (record { book = c.args.book.now; pins = pins; jobs = c.args.jobs.now.items; shrinks = shrinks }) start (with_event h pass (machine.FlushEnd c.args.slot) r)) (sym c.refused.ensures)
+returns-in_default g c p start h pass is st =
+    subst (λ (r : Option machine.Reply). PlayerStands (record p { book = c.args.book.now; jobs = c.args.jobs.now.items }) start (with_event h pass (machine.FlushEnd c.args.slot) r)) (sym c.refused.ensures)
     (c.flushes_go_on.ensures.none_ended _ start h pass c.args.slot st (not_found (λ (j : Job). j.slot) storage_of c.args.jobs.now.items c.deref.result.now c.args.slot c.place_of.result c.in_default.is c.place_of.ensures c.deref.ensures.value))
 
 pub fill-requires-clause-differ : goal.fill-requires-clause-differ
@@ -16,16 +16,16 @@ fill-requires-clause-differ g c = c.accounts.ensures.differ
 
 pub flush_end-requires-clause-open : goal.flush_end-requires-clause-open
 flush_end-requires-clause-open g c =
-    let some = c.requires.some.2 in
+    let some = c.requires.some.1 in
     let at = found_at (λ (j : Job). j.slot) storage_of c.args.jobs.now.items c.deref.result.now c.args.slot c.in-Some.place c.place_of.result c.remove-job.result c.in-Some.is c.place_of.ensures c.deref.ensures.value c.remove-job.ensures.value in
     (some.start, some.history, some.stands.book, (c.flushes_go_on.ensures.in_hand _ some.start some.history c.args.slot c.in-Some.place c.remove-job.result some.stands at.0 at.1).0)
 
 pub returns : goal.returns
-returns g c pins shrinks start h pass is st =
+returns g c p start h pass is st =
     let at = found_at (λ (j : Job). j.slot) storage_of c.args.jobs.now.items c.deref.result.now c.args.slot c.in-Some.place c.place_of.result c.remove-job.result c.in-Some.is c.place_of.ensures c.deref.ensures.value c.remove-job.ensures.value in
     let hand = c.flushes_go_on.ensures.in_hand _ start h c.args.slot c.in-Some.place c.remove-job.result st at.0 at.1 in
     let after : After c.flush_end.new.self start h pass (machine.FlushEnd c.args.slot) (Some machine.Done) =
     subst (λ (s : ℕ). After c.flush_end.new.self start h pass (machine.FlushEnd s) (Some machine.Done)) hand.1 (c.flush_end.ensures start h pass st.book hand.0) in
-    subst (λ (jobs : List Job). PlayerStands (record { book = c.flush_end.new.self; pins = pins; jobs = jobs; shrinks = shrinks }) start (with_event h pass (machine.FlushEnd c.args.slot) (Some machine.Done)))
+    subst (λ (jobs : List Job). PlayerStands (record p { book = c.flush_end.new.self; jobs = jobs }) start (with_event h pass (machine.FlushEnd c.args.slot) (Some machine.Done)))
     (sym c.remove-job.ensures.items)
     (c.flushes_go_on.ensures.ended _ c.flush_end.new.self start h pass c.args.slot c.in-Some.place c.remove-job.result is st at.0 at.1 after)

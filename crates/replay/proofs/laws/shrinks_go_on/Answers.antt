@@ -8,6 +8,7 @@ use Rattle.adb_model.specs.History.{state_after}
 use Rattle.book_parts.specs.Shrinks.{Copy, shrink_of, IsOpenCopy}
 use Rattle.replay.proofs.InHand.{is_open, of_slot, open_as, none_open, some_from}
 use Rattle.replay.proofs.Copies.{one_shrink_more, one_shrink_fewer, shrink_at}
+use Rattle.replay.proofs.Snaps.{snap_as}
 use Rattle.replay.proofs.GoingOn.{event, is_pass, last_reply, made, with_none, shrink_refused}
 use Rattle.replay.proofs.laws.shrinks_go_on.Goals as goal
 
@@ -24,8 +25,9 @@ returns c =
     let told = last_reply c.histories_go_on.ensures.each_legal in
     let law = c.shrinks_stay_open.ensures in
     let stay = c.open_shrink_reflects.ensures.stays in
+    let snaps = c.ended_snap_reflects.ensures.stays in
     record {
-      refused = λ p new start h pass slot refusal is st after. shrink_refused on stay c.histories_go_on.ensures.each_legal p new start h pass slot is st law.refused refusal after;
+      refused = λ p new start h pass slot refusal is st after. shrink_refused on stay snaps c.histories_go_on.ensures.each_legal p new start h pass slot is st law.refused refusal after;
       begun = λ p new copy start h pass slot is st same after opened.
           let m = state_after start h in
           let call = machine.ShrinkBegin slot in
@@ -35,10 +37,11 @@ returns c =
           let before = law.told m pass slot copy.old copy.id copy.bytes reply in
           let stays = law.begun m pass slot copy.old copy.id copy.bytes reply in
           let now = subst (λ (n : State). IsOpenCopy copy n) (on start h (event pass call answer)) opened in
-          made on start h pass call p new p.jobs _ answer (c.pins_are_own.ensures.same m pass call refl)
+          made on start h pass call p new p.jobs _ p.snap answer (c.pins_are_own.ensures.same m pass call refl)
           (open_as flush_slot storage_of p.jobs (open_flush m) (open_flush (step m pass call).0) (law.flush_begun m st.book.sound pass slot) st.jobs)
           (one_shrink_more stay m st.book.sound pass (is_pass pass is) call p.shrinks st.shrinks copy (ap (open_shrink m) same ∙ before.2) now
           (λ s apart. stays s ∙ ap (λ b. cond b (Some begun) (open_shrink m s)) (ap (λ (k : ℕ). eqb k s) (sym same) ∙ apart)))
+          (snap_as snaps m st.book.sound pass (is_pass pass is) call p.snap (c.snaps_stay_open.ensures.same m pass call refl) st.snap)
           st after;
       in_hand = λ p start h slot place copy st at got.
           let m = state_after start h in
@@ -46,18 +49,20 @@ returns c =
       ended = λ p new start h pass slot place copy reply is st at got after.
           let m = state_after start h in
           let call = machine.ShrinkEnd slot in
-          made on start h pass call p new p.jobs _ reply (c.pins_are_own.ensures.same m pass call refl)
+          made on start h pass call p new p.jobs _ p.snap reply (c.pins_are_own.ensures.same m pass call refl)
           (open_as flush_slot storage_of p.jobs (open_flush m) (open_flush (step m pass call).0) (law.flush_ended m st.book.sound pass slot) st.jobs)
           (one_shrink_fewer stay m st.book.sound pass (is_pass pass is) call p.shrinks st.shrinks slot place at copy got
           (law.ended m pass slot (some_from (open_shrink m slot) (shrink_of copy) (is_open slot_of shrink_of p.shrinks (open_shrink m) st.shrinks.opened slot place at copy got))))
+          (snap_as snaps m st.book.sound pass (is_pass pass is) call p.snap (c.snaps_stay_open.ensures.same m pass call refl) st.snap)
           st after;
       given_up = λ p new start h pass slot place copy is st at got after.
           let m = state_after start h in
           let call = machine.ShrinkAbort slot in
-          made on start h pass call p new p.jobs _ machine.Done (c.pins_are_own.ensures.same m pass call refl)
+          made on start h pass call p new p.jobs _ p.snap machine.Done (c.pins_are_own.ensures.same m pass call refl)
           (open_as flush_slot storage_of p.jobs (open_flush m) (open_flush (step m pass call).0) (law.flush_aborted m st.book.sound pass slot) st.jobs)
           (one_shrink_fewer stay m st.book.sound pass (is_pass pass is) call p.shrinks st.shrinks slot place at copy got
           (law.aborted m pass slot (some_from (open_shrink m slot) (shrink_of copy) (is_open slot_of shrink_of p.shrinks (open_shrink m) st.shrinks.opened slot place at copy got))))
+          (snap_as snaps m st.book.sound pass (is_pass pass is) call p.snap (c.snaps_stay_open.ensures.same m pass call refl) st.snap)
           st after;
       none_ended = λ p start h pass slot st at.
           let m = state_after start h in

@@ -6,7 +6,7 @@ use Rattle.replay.proofs.passes.load.Goals as goal
 
 pub load_in_hand-requires : goal.load_in_hand-requires
 load_in_hand-requires c =
-    let some = c.requires.some.2 in
+    let some = c.requires.some.1 in
     record {
       start = some.start;
       history = some.history;
@@ -15,7 +15,7 @@ load_in_hand-requires c =
     }
 
 pub returns : goal.returns
-returns c jobs shrinks start h st =
+returns c p start h st =
     let own = in_hand _ start h c.args.lane c.index_mut-pins.result.now c.requires.lane st c.index_mut-pins.ensures.value in
-    c.lanes_go_on.ensures.of_lane _ c.load_in_hand.new.book c.load_in_hand.new.pins start h c.args.lane (machine.Load c.args.view.now c.args.key.now.0) (told c.load_in_hand.result) refl refl c.requires.lane st
+    c.lanes_go_on.ensures.of_lane _ c.load_in_hand.new.book c.load_in_hand.new.pins start h c.args.lane (machine.Load c.args.view.now c.args.key.now.0) (told c.load_in_hand.result) refl refl refl c.requires.lane st
     (c.load_in_hand.ensures.pass ∙ own.0) (c.load_in_hand.ensures.stands start h st.book own.1)

@@ -6,7 +6,7 @@ use Rattle.replay.proofs.passes.unpin.Goals as goal
 
 pub unpin-requires : goal.unpin-requires
 unpin-requires c =
-    let some = c.requires.some.2 in
+    let some = c.requires.some.1 in
     record {
       start = some.start;
       history = some.history;
@@ -15,7 +15,7 @@ unpin-requires c =
     }
 
 pub returns : goal.returns
-returns c jobs shrinks start h st =
+returns c p start h st =
     let own = in_hand _ start h c.args.lane c.index_mut-pins.result.now c.requires.lane st c.index_mut-pins.ensures.value in
-    c.lanes_go_on.ensures.of_lane _ c.unpin.new.self c.unpin.new.pins start h c.args.lane (machine.Unpin c.args.id) _ refl refl c.requires.lane st (c.unpin.ensures.pass ∙ own.0)
+    c.lanes_go_on.ensures.of_lane _ c.unpin.new.self c.unpin.new.pins start h c.args.lane (machine.Unpin c.args.id) _ refl refl refl c.requires.lane st (c.unpin.ensures.pass ∙ own.0)
     (subst (λ (r : Option machine.Reply). AfterWithPins c.unpin.new.self c.unpin.new.pins start h (machine.Unpin c.args.id) r) (sym c.unpinned.ensures) (c.unpin.ensures.stands start h st.book own.1))
