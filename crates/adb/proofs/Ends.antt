@@ -38,4 +38,4 @@ rose_later k k1 k2 le h = omega arith
 -- a flush that fails makes a run that was done a fault of the sink
 pub flush_failed : (replay : Bool) (left left' a b c : Option (List ℕ)) (s s' k k1 k2 : ℕ) → Keeps b c → k ≤ k1 → Rose k1 k2
     → Ended replay left left' s s' a b k k1 ends.Done → Ended replay left left' s s' a c k k2 ends.SinkFault
-flush_failed replay left left' a b c s s' k k1 k2 keep le rose h = (h.0, rose_later k k1 k2 le rose, done_cut left left' a b c keep h.3)
+flush_failed replay left left' a b c s s' k k1 k2 keep le rose h = (h.0, h.1, rose_later k k1 k2 le rose, done_cut left left' a b c keep h.3)

@@ -99,7 +99,7 @@ abbrev pub PlayedBytes : List ℕ → Option (List ℕ) → Option (List ℕ) �
 PlayedBytes bytes taken taken' k k' ends.Refused = IsNoScript bytes × EndsWith taken taken' k k' refused_line
 PlayedBytes bytes taken taken' k k' ends.Done = (k' ≡ k) × (said : Said) × IsScript bytes said × PlayedAll taken taken' said
 PlayedBytes bytes taken taken' k k' ends.SinkFault = Rose k k' × (said : Said) × IsScript bytes said × CutShort taken taken' said
-PlayedBytes bytes taken taken' k k' ends.NoMemory = Keeps taken taken' ⊎ ((said : Said) × IsScript bytes said × CutShort taken taken' said)
+PlayedBytes bytes taken taken' k k' ends.NoMemory = (k' ≡ k) × (Keeps taken taken' ⊎ ((said : Said) × IsScript bytes said × CutShort taken taken' said))
 PlayedBytes bytes taken taken' k k' ends.Usage = ⊥
 PlayedBytes bytes taken taken' k k' ends.ReadFault = ⊥
 PlayedBytes bytes taken taken' k k' ends.TooLong = ⊥
@@ -108,8 +108,8 @@ PlayedBytes bytes taken taken' k k' ends.TooLong = ⊥
 abbrev pub Ended : Bool → Option (List ℕ) → Option (List ℕ) → ℕ → ℕ → Option (List ℕ) → Option (List ℕ) → ℕ → ℕ → End → Type 0
 Ended replay left left' s s' taken taken' k k' ends.Usage = (replay ≡ false) × EndsWith taken taken' k k' usage_line
 Ended replay left left' s s' taken taken' k k' ends.ReadFault = (replay ≡ true) × Rose s s' × EndsWith taken taken' k k' read_fault_line
-Ended replay left left' s s' taken taken' k k' ends.TooLong = (replay ≡ true) × HadTooMany left × EndsWith taken taken' k k' too_long_line
-Ended replay left left' s s' taken taken' k k' ends.Refused = (replay ≡ true) × GaveNoScript left left' × EndsWith taken taken' k k' refused_line
+Ended replay left left' s s' taken taken' k k' ends.TooLong = (replay ≡ true) × (s' ≡ s) × HadTooMany left × EndsWith taken taken' k k' too_long_line
+Ended replay left left' s s' taken taken' k k' ends.Refused = (replay ≡ true) × (s' ≡ s) × GaveNoScript left left' × EndsWith taken taken' k k' refused_line
 Ended replay left left' s s' taken taken' k k' ends.Done = (replay ≡ true) × (s' ≡ s) × (k' ≡ k) × IsDone left left' taken taken'
-Ended replay left left' s s' taken taken' k k' ends.SinkFault = (replay ≡ true) × Rose k k' × IsCut left left' taken taken'
-Ended replay left left' s s' taken taken' k k' ends.NoMemory = (replay ≡ true) × (Keeps taken taken' ⊎ IsCut left left' taken taken')
+Ended replay left left' s s' taken taken' k k' ends.SinkFault = (replay ≡ true) × (s' ≡ s) × Rose k k' × IsCut left left' taken taken'
+Ended replay left left' s s' taken taken' k k' ends.NoMemory = (replay ≡ true) × (s' ≡ s) × (Keeps taken taken' ⊎ IsCut left left' taken taken')

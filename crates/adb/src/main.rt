@@ -11,6 +11,9 @@ use stream_io::{StdSink, StdSource};
 /// The status of want of memory.
 const NO_MEMORY: u8 = 6;
 
+/// So many bytes of the journal are written at once.
+const OUTPUT_BUFFER: usize = 65_536;
+
 // The words of the command line, without the program's name. Words that aren't UTF-8 are none.
 fn words(rt: &HostRuntime) -> io::Result<Vec<String>> {
     let mut words = Vec::new(rt.alloc());
@@ -28,7 +31,8 @@ fn words(rt: &HostRuntime) -> io::Result<Vec<String>> {
 fn run(rt: &HostRuntime) -> io::Result<u8> {
     let words = words(rt)?;
     let mut source = StdSource::new(BufReader::new(rt.alloc(), rt.reader())?);
-    let mut sink = StdSink::new(BufWriter::new(rt.alloc(), io::writer(rt))?);
+    let output = BufWriter::with_capacity(rt.alloc(), OUTPUT_BUFFER, io::writer(rt))?;
+    let mut sink = StdSink::new(output);
     Ok(running::run(rt, &words, &mut source, &mut sink))
 }
 

@@ -1,10 +1,10 @@
-ghost use Rattle.std.specs.Prelude.{◌≡◌, ◌≤◌, ◌↔◌, ◌⊎◌, false, true, map};
+ghost use Rattle.std.specs.Prelude.{◌≡◌, ◌≢◌, ◌≤◌, ◌↔◌, ◌⊎◌, false, true, map, IsTrue};
 ghost use Rattle.std.specs.String.{string_bytes};
 ghost use Rattle.std.specs.Io.KnownBytes.{Keeps};
 ghost use Rattle.stream_io.specs.Stream.{Rose};
 ghost use Rattle.adb.specs.Run.{is_replay as asks_replay, usage_line, read_fault_line, EndsWith, IsDone, IsCut, IsRefused, TellsScript, TellsNoScript, IsStatus, status_of, PlayedBytes, Ended};
 
-use replay::run_replay;
+use replay::run_replay_with_player;
 use script::{ScriptFault, parse};
 use std::mem::forget;
 use stream_io::{ReadFault, Sink, Source, read_whole, write_whole};
@@ -70,14 +70,15 @@ fn play<R: AllocGlobal, K: Sink>(rt: &R, bytes: Vec<u8>, sink: &mut K) -> End
             End::Refused
         }
         Ok(script) => {
-            let end = match run_replay(rt, &script, sink) {
+            let (status, player) = run_replay_with_player(rt, &script, sink);
+            // The run ends here: to give back what the book and each line hold would only take time.
+            forget(player);
+            forget(script);
+            match status {
                 0 => End::Done,
                 4 => End::SinkFault,
                 _ => End::NoMemory,
-            };
-            // The run ends here: to give back what each line holds would only take time.
-            forget(script);
-            end
+            }
         }
     }
 }
@@ -123,6 +124,7 @@ fn run_to_end<R: AllocGlobal, S: Source, K: Sink>(
     ensures ended { Ended (asks_replay (map (λ word. string_bytes word) words.now)) (S.left source.old) (S.left source.new) (S.faults source.old) (S.faults source.new)
         (K.taken sink.old) (K.taken sink.new) (K.faults sink.old) (K.faults sink.new) result }
     ensures unread { result ≡ End.Usage → source.new ≡ source.old }
+    ensures flushed { ¬ (Rose (K.faults sink.old) (K.faults sink.new)) → IsTrue (K.flushed sink.new) }
     ensures source_later { S.faults source.old ≤ S.faults source.new }
     ensures sink_later { K.faults sink.old ≤ K.faults sink.new }
 {
@@ -170,6 +172,7 @@ pub fn run<R: AllocGlobal, S: Source, K: Sink>(
 
     // The source failed.
     ensures read_fault { result ≡ 3 → Rose (S.faults source.old) (S.faults source.new) }
+    ensures no_read_fault { result ≢ 3 → S.faults source.new ≡ S.faults source.old }
     ensures read_fault_line { result ≡ 3 → EndsWith (K.taken sink.old) (K.taken sink.new) (K.faults sink.old) (K.faults sink.new) read_fault_line }
 
     // The sink failed: it took some of the front of the journal.
@@ -182,6 +185,9 @@ pub fn run<R: AllocGlobal, S: Source, K: Sink>(
     // With a script, and no fault of the streams, the run is done, unless memory is wanted.
     ensures complete { asks_replay (map (λ word. string_bytes word) words.now) ≡ true → TellsScript (S.left source.old)
         → ¬ (Rose (S.faults source.old) (S.faults source.new)) → ¬ (Rose (K.faults sink.old) (K.faults sink.new)) → (result ≡ 0) ⊎ (result ≡ 6) }
+
+    // However the run ended, nothing is held back, unless the sink failed.
+    ensures flushed { ¬ (Rose (K.faults sink.old) (K.faults sink.new)) → IsTrue (K.flushed sink.new) }
 
     ensures source_later { S.faults source.old ≤ S.faults source.new }
     ensures sink_later { K.faults sink.old ≤ K.faults sink.new }
