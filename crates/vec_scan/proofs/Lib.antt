@@ -1,11 +1,12 @@
 pub mod Forwards
 pub mod Known
 pub mod Located
+pub mod Offsets
 pub mod OneReading
 pub mod Padding
 pub mod Passing
 pub mod Rounding
+pub mod RowSizes
 pub mod Scanning
 pub mod Sealing
-pub mod Searching
 pub mod Writing

@@ -1,5 +1,5 @@
 -- A sealed image, as contracts see it.
-use Rattle.std.specs.Prelude.{◌≡◌, ℕ, ◌-◌, ◌==◌, nat_le, List, ◌++◌, take, replicate, find, map, Option, option_map}
+use Rattle.std.specs.Prelude.{◌≡◌, ℕ, ◌-◌, ◌==◌, List, ◌++◌, take, replicate, find, map, Option, option_map}
 use Rattle.le_fields.specs.Fields.{rounded}
 use Rattle.adb_model.specs.State.{Row}
 use Rattle.account_layout.specs.declared.record.Record.{Record}
@@ -29,10 +29,6 @@ row_there rows offset = option_map (λ placed. placed.row) (row_at rows offset)
 -- the rows of an image, without their places
 abbrev pub rows_in : Image → List Row
 rows_in image = map (λ placed. placed.row) image.rows
-
--- the place of the first row that starts at a place or after it
-abbrev pub next_offset : List Placed → ℕ → Option ℕ
-next_offset rows at = option_map (λ row. row.offset) (find (λ row. nat_le at row.offset) rows)
 
 -- the places at which rows start, in their order
 abbrev pub offsets_of : List Placed → List ℕ

@@ -1,5 +1,5 @@
 -- What images show of the accounts in them.
-use Rattle.std.specs.Prelude.{List, map}
+use Rattle.std.specs.Prelude.{List, length, map}
 use Rattle.std.specs.Global.{Global}
 use Rattle.std.specs.declared.sync.Arc.{Arc}
 use Rattle.adb_model.specs.Opened as machine
@@ -14,3 +14,7 @@ images_of storages = map (λ s. s.value) storages
 -- an image's slot, its rows, and the bytes of their records
 abbrev pub shown : Image → machine.Image
 shown image = record { slot = image.slot; rows = rows_in image; bytes = bytes_of (rows_in image) }
+
+-- an image's slot, its rows, and its own bytes
+abbrev pub stored : Image → machine.Image
+stored image = record { slot = image.slot; rows = rows_in image; bytes = length image.bytes }

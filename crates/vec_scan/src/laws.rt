@@ -3,11 +3,13 @@
 ghost use Rattle.std.specs.Prelude.{◌≡◌, List, ℕ, length, sum_by};
 ghost use Rattle.std.specs.List.{AllByRecursion};
 ghost use Rattle.adb_model.specs.Account.{size};
+ghost use Rattle.adb_model.specs.RowBytes.{RowsTake};
 ghost use Rattle.adb_model.specs.State.{Row};
-ghost use Rattle.vec_scan.specs.Image.{IsImage, Placed};
+ghost use Rattle.vec_scan.specs.Image.{Image, IsImage, Placed};
+ghost use Rattle.vec_scan.specs.Seal.{rows_in};
 ghost use Rattle.vec_scan.specs.Written.{IsWritableRow, written_image, written_rows};
 
-use account_layout::{records_have_one_reading, written_records_are_read};
+use account_layout::{records_are_read, records_have_one_reading, written_records_are_read};
 
 /// Bytes have one reading as an image.
 pub fn images_have_one_reading()
@@ -25,4 +27,11 @@ pub fn written_images_are_read()
         → written_image rows ≡ written_image others → rows ≡ others }
 {
     written_records_are_read();
+}
+
+/// Each row takes at least the bytes of a record's header.
+pub fn rows_take_bytes()
+    ensures { (image : Image) → IsImage image.bytes image.rows → RowsTake (rows_in image) (length image.bytes) }
+{
+    records_are_read();
 }

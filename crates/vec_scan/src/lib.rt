@@ -14,7 +14,7 @@ mod scan;
 mod sealed;
 
 pub use fault::LayoutFault;
-pub use laws::{images_have_one_reading, written_images_are_read};
+pub use laws::{images_have_one_reading, rows_take_bytes, written_images_are_read};
 pub use sealed::{Sealed, seal, seal_written};
 
 #[cfg(test)]

@@ -1,11 +1,12 @@
 // A sealed image.
-ghost use Rattle.std.specs.Prelude.{◌≡◌, ◌%◌, ◌⊎◌, List, Ok, IsSome, Some, IfOk, IfErr, IfSome, MatchResult, IsErrAnd, length, find, nat_le};
+ghost use Rattle.std.specs.Prelude.{◌≡◌, ◌%◌, ◌⊎◌, List, Ok, IsSome, Some, IfOk, IfErr, MatchResult, IsErrAnd, EachIndex, length, slice_get, slice_index};
+ghost use Rattle.std.specs.List.{All};
 ghost use Rattle.std.specs.List.Sorted.{IsStrictlyIncreasing};
 ghost use Rattle.adb_model.specs.State.{Row};
 ghost use Rattle.account_layout.specs.Reading as reading;
 ghost use Rattle.vec_scan.specs.Fault.{HasFault};
 ghost use Rattle.vec_scan.specs.Image.{HasImage, IsImage, Placed};
-ghost use Rattle.vec_scan.specs.Seal.{Seals, next_offset, offsets_of, placed, row_at};
+ghost use Rattle.vec_scan.specs.Seal.{Seals, offsets_of, placed, row_at};
 ghost use Rattle.vec_scan.specs.Written.{IsWritten, written_rows};
 
 use crate::fault::LayoutFault;
@@ -127,14 +128,16 @@ impl Sealed {
         self.offsets.len()
     }
 
-    /// The offset of the first record that starts at `at` or after it, by a search in the offsets; `None`
-    /// where there is none.
-    pub fn next_row(&self, at: usize) -> Option<usize>
-        ensures next { result ≡ next_offset self.now.rows at }
-        ensures row { IfSome result (λ offset. IsSome (row_at self.now.rows offset)) }
-        ensures rise { IsStrictlyIncreasing (offsets_of self.now.rows) }
+    /// The offsets of the records, in their order.
+    pub fn offsets(&self) -> &[usize]
+        ensures offsets { result.now ≡ offsets_of self.now.rows }
+        ensures rise { IsStrictlyIncreasing result.now }
+
+        // A record can be read at each of them, and the record at the i-th is that of the i-th row.
+        ensures records { All (λ offset. IsSome (row_at self.now.rows offset)) result.now }
+        ensures rows { EachIndex result.now (λ i. row_at self.now.rows (slice_index result.now i) ≡ slice_get self.now.rows i) }
     {
-        first_from(&self.offsets, at)
+        &self.offsets
     }
 
     /// The record that starts at `offset`, read where it lies.
@@ -148,13 +151,4 @@ impl Sealed {
             Err(_) => unreachable!(),
         }
     }
-}
-
-// The first offset that is not below `at`.
-fn first_from(offsets: &[usize], at: usize) -> Option<usize>
-    requires { IsStrictlyIncreasing offsets.now }
-    ensures { result ≡ find (λ o. nat_le at o) offsets.now }
-{
-    let place = offsets.partition_point(|offset| *offset < at);
-    offsets.get(place).copied()
 }
