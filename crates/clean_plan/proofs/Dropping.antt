@@ -1,9 +1,9 @@
 -- The shadowed pairs of a key leave one after another.
-use Rattle.std.proofs.Common.{◌≡◌, ℕ, ◌+◌, ◌<◌, ◌≤◌, List, Bool, true, false, cond, eqb, ltb, not, ◌&&◌, Option, Some, None, IsSome, is_some, IsTrue, IsFalse, refl, sym, ap, ◌∙◌, inl, inr, arith}
+use Rattle.std.proofs.Common.{◌≡◌, ℕ, ◌<◌, List, Bool, true, false, cond, eqb, ltb, not, ◌&&◌, Option, Some, None, IsSome, is_some, IsTrue, IsFalse, refl, sym, ap, ◌∙◌, inl, inr, arith}
 use Rattle.std.specs.Option.{option_map_or}
 use Rattle.std.specs.Str.{bytes_eq}
 use Rattle.std.specs.Cmp.Lexicographic.{bytes_decides}
-use Rattle.std.proofs.lemmas.Bool.{cases_Bool, cases_lt, eqb-true, eq-eqb, ne_eqb, lt-ltb, le-ltb, true≢false, false≢true}
+use Rattle.std.proofs.lemmas.Bool.{cases_Bool, cases_lt, eq-eqb, ne_eqb, lt-ltb, le-ltb, false≢true}
 use Rattle.slot_list.specs.declared.Version.{Version}
 use Rattle.slot_list.specs.Versions.{at, without}
 use Rattle.accounts_index.specs.Index.{Index, Kept, kept, is_stored}

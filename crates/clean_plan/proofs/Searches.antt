@@ -1,5 +1,5 @@
 -- What a search of rising versions finds.
-use Rattle.std.proofs.Common.{◌≡◌, ℕ, zero, suc, ◌+◌, ◌<◌, ◌≤◌, List, [], ◌∷◌, length, get_or, Bool, true, false, eqb, leb, ◌&&◌, Option, Some, None, IsSome, is_some, IsTrue, option_map, refl, sym, ap, ◌∙◌, inl, inr, arith}
+use Rattle.std.proofs.Common.{◌≡◌, ℕ, zero, suc, ◌<◌, ◌≤◌, List, [], ◌∷◌, length, get_or, Bool, true, false, eqb, leb, ◌&&◌, Option, Some, None, is_some, option_map, refl, sym, ap, ◌∙◌, inl, inr, arith}
 use Rattle.std.specs.List.{All, AllWithin}
 use Rattle.std.specs.List.Sorted.{IsNonDecreasingBy}
 use Rattle.std.proofs.lemmas.Bool.{cases_Bool, cases_lt, eqb-true, eq-eqb, ne_eqb, leb-true, le-leb, true≢false}
@@ -9,7 +9,7 @@ use Rattle.slot_list.specs.Versions.{at, VersionsRise}
 use Rattle.accounts_index.specs.Index.{is_stored}
 use Rattle.adb_model.specs.Lists.{among}
 use Rattle.std.proofs.lemmas.List.{get_or_default}
-use Rattle.book_parts.specs.Reclaims.{is_stored_at, IsShadow, IsNewestShadow}
+use Rattle.book_parts.specs.Reclaims.{is_stored_at, IsNewestShadow}
 use Rattle.clean_plan.specs.Lists.{IsNextStored}
 
 -- ---- the version of a slot

@@ -1,10 +1,9 @@
 -- The spent pair of a key leaves, after which it has none.
-use Rattle.std.proofs.Common.{◌≡◌, ℕ, ◌<◌, List, Bool, true, false, eqb, not, ◌&&◌, ◌↔◌, IsTrue, IsFalse, Some, None, refl, sym, ap, ◌∙◌, inl, inr, ◌⊎◌, arith}
+use Rattle.std.proofs.Common.{◌≡◌, ℕ, List, Bool, true, false, eqb, not, ◌&&◌, ◌↔◌, IsTrue, Some, None, refl, ◌∙◌, inl, inr}
 use Rattle.std.specs.Str.{bytes_eq}
-use Rattle.std.proofs.lemmas.Bool.{cases_Bool, cases_lt, eqb-true, eqb-false, true≢false, false≢true}
+use Rattle.std.proofs.lemmas.Bool.{cases_Bool, eqb-false}
 use Rattle.accounts_index.specs.Index.{Index, kept}
 use Rattle.storage_map.specs.Slots.{Slots}
-use Rattle.slot_list.specs.declared.Version.{Version}
 use Rattle.adb_model.specs.State.{State}
 use Rattle.adb_model.specs.Presence.{is_named}
 use Rattle.adb_model.specs.Reclaimable.{is_spent}

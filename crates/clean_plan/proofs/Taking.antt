@@ -1,18 +1,14 @@
 -- Keys are taken one after another.
-use Rattle.std.proofs.Common.{◌≡◌, ℕ, zero, suc, ◌+◌, ◌<◌, ◌≤◌, List, [], ◌∷◌, ◌++◌, length, take, get_or, map, Bool, true, false, ◌||◌, IsTrue, IsFalse, refl, sym, ap, subst, ◌∙◌, inl, inr, ◌⊎◌, arith}
-use Rattle.std.specs.List.{list_any}
+use Rattle.std.proofs.Common.{◌≡◌, ℕ, zero, suc, ◌+◌, ◌<◌, ◌≤◌, List, [], ◌∷◌, ◌++◌, length, take, get_or, Bool, true, false, ◌||◌, IsTrue, IsFalse, refl, sym, ap, ◌∙◌, inl, inr, ◌⊎◌, arith}
 use Rattle.std.specs.Str.{bytes_eq}
 use Rattle.std.proofs.Math.Seq.{take-suc, take-length}
-use Rattle.std.proofs.lemmas.Bool.{cases_Bool, false≢true}
+use Rattle.std.proofs.lemmas.Bool.{false≢true}
 use Rattle.std.proofs.lemmas.List.{map-append, get_or_default}
 use Rattle.std.proofs.lemmas.List.Folds.{list_any-append}
-use Rattle.accounts_index.specs.Index.{Index}
-use Rattle.storage_map.specs.Slots.{Slots}
 use Rattle.adb_model.specs.declared.key.Key.{Key}
 use Rattle.adb_model.specs.State.{State}
 use Rattle.adb_model.specs.Reclaim.{is_taken}
-use Rattle.book_parts.specs.Parts.{Parts}
-use Rattle.clean_plan.specs.Leaving.{bytes_of, StandAs, Leave}
+use Rattle.clean_plan.specs.Leaving.{bytes_of, Leave}
 use Rattle.clean_plan.proofs.Dropping.{bytes_eq-self, same_bytes}
 
 either : (a b : Bool) → (a || b) ≡ true → (a ≡ true) ⊎ (b ≡ true)

@@ -5,7 +5,7 @@ use Rattle.storage_map.specs.Slots.{Slots}
 use Rattle.cell_table.specs.Cells.{Table}
 use Rattle.adb_model.specs.declared.key.Key.{Key}
 use Rattle.adb_model.specs.State.{State}
-use Rattle.adb_model.specs.Reclaim.{is_taken, retire_unnamed}
+use Rattle.adb_model.specs.Reclaim.{is_taken}
 use Rattle.book_parts.specs.Parts.{Parts, Shared}
 use Rattle.book_parts.specs.Reflects.{Reflects}
 use Rattle.book_parts.specs.Reclaims.{IsMidway}

@@ -65,10 +65,8 @@ fn retire(
 fn unhold_rows(image: &Sealed, slot: Slot, index: &mut AccountsIndex)
     ensures { Unholds slot (rows_in image.now) index.old index.new }
 {
-    let mut at = 0;
-    while let Some(offset) = image.next_row(at) {
-        let record = image.record_at(offset);
+    for offset in image.offsets() {
+        let record = image.record_at(*offset);
         index.unhold(&record.key, slot);
-        at = offset + 1;
     }
 }

@@ -1,5 +1,4 @@
 mod Facts
-mod Passing
 mod Standing
 mod RowsSorted
 mod Edits

@@ -1,9 +1,11 @@
 -- Rows that are sorted one after another.
-use Rattle.std.proofs.Common.{◌≡◌, ℕ, ◌+◌, List, [], ◌∷◌, ◌++◌, map, filter, Bool, true, false, cond, not, Option, is_some, refl, sym, ap, ◌∙◌, inl, inr, arith}
+use Rattle.std.proofs.Common.{◌≡◌, ℕ, ◌+◌, ◌≤◌, List, [], ◌∷◌, ◌++◌, length, map, filter, take, Bool, true, false, cond, not, Option, Some, is_some, refl, sym, ap, ◌∙◌, inl, inr, arith}
+use Rattle.std.specs.List.{slice_get}
 use Rattle.std.proofs.lemmas.Bool.{cases_Bool}
-use Rattle.std.proofs.lemmas.List.{map-append, append-nil}
+use Rattle.std.proofs.lemmas.List.{map-append, append-nil, length-map, take_all, take_more}
 use Rattle.std.proofs.lemmas.List.Elements.{filter-append}
 use Rattle.std.proofs.lemmas.List.Sums.{sum_by_push}
+use Rattle.std.proofs.lemmas.Option.{get_or_from_slice_get, slice_get_within}
 use Rattle.slot_list.specs.declared.Version.{Version}
 use Rattle.slot_list.specs.Versions.{at}
 use Rattle.accounts_index.specs.Index.{Index, kept}
@@ -77,6 +79,15 @@ sorts_more index slot cell done p version old new is so_far copied dead bytes = 
       ∙ ap (λ n. n + cond (is_found_there index slot cell p) (size p.row.account) 0) so_far.bytes
       ∙ sym (bytes_more (is_found_there index slot cell) done p);
 }
+
+-- the rows with the next one
+pub next_row : (rows : List Placed) (n : ℕ) (p : Placed) → slice_get rows n ≡ Some p → take (n + 1) rows ≡ take n rows ++ p ∷ []
+next_row rows n p is =
+    take_more rows n p (slice_get_within rows n p is) ∙ ap (λ (q : Placed). take n rows ++ q ∷ []) (get_or_from_slice_get rows n p p is)
+
+-- as many rows as there are offsets are all
+pub all_rows : (rows : List Placed) (offsets : List ℕ) (n : ℕ) → offsets ≡ offsets_of rows → length offsets ≤ n → take n rows ≡ rows
+all_rows rows offsets n are le = take_all n rows (omega (arith, le, ap length are, length-map rows (λ (p : Placed). p.offset)))
 
 -- no rows are sorted yet
 pub sorts_none : (index : Index) (slot cell : ℕ) (rows : SortedRows) → rows.copied.items ≡ [] → rows.dead.items ≡ [] → rows.bytes ≡ 0 → Sorts index slot cell [] rows

@@ -5,7 +5,7 @@ use Rattle.std.specs.List.Sorted.{IsStrictlyIncreasing}
 use Rattle.std.proofs.lemmas.Bool.{and_parts, eqb-true, eq-eqb, ne_eqb, false≢true}
 use Rattle.std.proofs.lemmas.List.{get_or-map, length-map}
 use Rattle.std.proofs.lemmas.List.Elements.{All-filter, filter_passes, All-tail}
-use Rattle.std.proofs.lemmas.List.Kept.{AllPairs-filter}
+use Rattle.std.proofs.lemmas.List.Kept.{AllPairs-filter, AllPairs-from_increasing}
 use Rattle.slot_list.specs.declared.Version.{Version}
 use Rattle.slot_list.specs.declared.Place.{Place}
 use Rattle.slot_list.specs.declared.Place.TheVariants.{Cached, Stored}
@@ -19,7 +19,6 @@ use Rattle.book_parts.specs.Shrinks.{is_at, is_found_there}
 use Rattle.shrink_plan.specs.Places.{StandAt, rows_at, AreRows}
 use Rattle.shrink_plan.specs.Sources.{is_found_at}
 use Rattle.shrink_plan.proofs.Facts.{some_same, pairs_head, pairs_tail}
-use Rattle.shrink_plan.proofs.Passing.{Below, rise_below}
 
 abbrev row_of : Placed → Row
 row_of placed = placed.row
@@ -80,6 +79,18 @@ row_read image places i place p are lt is read =
     )
 
 -- ---- some rows of an image stand at their own places
+
+abbrev pub Below : Placed → Placed → Type 0
+Below a b = a.offset < b.offset
+
+-- offsets that rise are those of records below one another
+pub rise_below : (xs : List Placed) → IsStrictlyIncreasing (offsets_of xs) → AllPairs Below xs
+rise_below xs rise i j d lt within =
+    let pairs = AllPairs-from_increasing (offsets_of xs) rise in
+    let at_i = get_or-map (λ (x : Placed). x.offset) xs i d 0 (omega (arith, lt, within)) in
+    let at_j = get_or-map (λ (x : Placed). x.offset) xs j d 0 within in
+    let both = pairs i j 0 lt (omega (arith, within, length-map xs (λ (x : Placed). x.offset))) in
+    omega (arith, both, at_i, at_j)
 
 pub stand_there : (all : List Placed) → AllPairs Below all → All (λ p. row_at all p.offset ≡ Some p) all
 stand_there [] below i d lt = absurd (omega (arith, lt))

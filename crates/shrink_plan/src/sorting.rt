@@ -49,12 +49,10 @@ pub fn sort_rows(
         dead: Vec::new(alloc),
         bytes: 0,
     };
-    let mut at = 0;
-    while let Some(offset) = image.next_row(at) {
-        let record = image.record_at(offset);
+    for offset in image.offsets() {
+        let record = image.record_at(*offset);
         let version = index.version(&record.key, slot);
-        rows.put(version, cell, offset, record.stored_size())?;
-        at = offset + 1;
+        rows.put(version, cell, *offset, record.stored_size())?;
     }
     Ok(rows)
 }
@@ -65,11 +63,9 @@ pub fn bytes_to_copy(slot: Slot, cell: Cell, image: &Sealed, index: &AccountsInd
     ensures places { IsStrictlyIncreasing (offsets_of image.now.rows) }
 {
     let mut bytes = 0;
-    let mut at = 0;
-    while let Some(offset) = image.next_row(at) {
-        let record = image.record_at(offset);
-        bytes += size_to_copy(slot, cell, offset, &record, index) as u128;
-        at = offset + 1;
+    for offset in image.offsets() {
+        let record = image.record_at(*offset);
+        bytes += size_to_copy(slot, cell, *offset, &record, index) as u128;
     }
     bytes
 }

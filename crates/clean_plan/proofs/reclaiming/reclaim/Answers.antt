@@ -1,11 +1,10 @@
-use Rattle.std.proofs.Common.{◌≡◌, ◌<◌, List, ℕ, length, take, option_map, sym, ap, subst, ◌∙◌, Some, arith}
+use Rattle.std.proofs.Common.{◌<◌, length, take, option_map, ap, subst, ◌∙◌, Some, arith}
 use Rattle.accounts_index.specs.Index.{crowded_after}
 use Rattle.adb_model.specs.declared.key.Key.{Key}
 use Rattle.adb_model.specs.Lists.{last}
 use Rattle.adb_model.specs.State.{State}
-use Rattle.adb_model.specs.Reclaim.{keys_taken, reclaimed}
+use Rattle.adb_model.specs.Reclaim.{keys_taken}
 use Rattle.adb_model.specs.Cleaning.{crowded_above}
-use Rattle.book_parts.specs.Parts.{Parts}
 use Rattle.clean_plan.specs.Leaving.{bytes_of, rooted, StandWith}
 use Rattle.clean_plan.proofs.Answered.{last_is, of_answer, both_taken}
 use Rattle.clean_plan.proofs.reclaiming.reclaim.Goals as goal

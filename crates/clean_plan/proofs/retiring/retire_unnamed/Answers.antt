@@ -1,7 +1,6 @@
-use Rattle.std.proofs.Common.{◌≡◌, refl, ap, sym, subst, ◌∙◌, arith}
+use Rattle.std.proofs.Common.{refl, sym, subst, ◌∙◌}
 use Rattle.adb_model.specs.State.{State}
 use Rattle.adb_model.specs.Sound.{IsSound}
-use Rattle.adb_model.specs.Reclaim as machine
 use Rattle.clean_plan.specs.Leaving.{StandWith}
 use Rattle.clean_plan.proofs.retiring.retire_unnamed.Goals as goal
 

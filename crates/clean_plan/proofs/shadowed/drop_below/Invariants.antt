@@ -1,4 +1,4 @@
-use Rattle.std.proofs.Common.{◌≡◌, ℕ, ◌-◌, ◌<◌, ◌≤◌, false, Some}
+use Rattle.std.proofs.Common.{◌≡◌, ℕ, ◌-◌, ◌<◌, false, Some}
 use Rattle.accounts_index.specs.Index.{kept}
 use Rattle.adb_model.specs.State.{State}
 use Rattle.book_parts.specs.Parts.{Parts}

@@ -1,5 +1,3 @@
-use Rattle.std.proofs.Common.{refl}
-use Rattle.adb_model.specs.State.{State}
 use Rattle.clean_plan.specs.Leaving.{rooted}
 use Rattle.clean_plan.proofs.Spending.{Laws, named_spent, left_spent, none_spent}
 use Rattle.clean_plan.proofs.spent.drop_spent_of.Goals as goal
