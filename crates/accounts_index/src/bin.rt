@@ -1,4 +1,4 @@
-ghost use Rattle.std.specs.Prelude.{◌≡◌, ◌+◌, ◌-◌, ◌*◌, ◌^◌, ◌≤◌, ◌++◌, ◌∷◌, [], true, false, length, take, map, option_map, option_copied, MatchOption, OnOk, OnErr, IsOk, IsSome};
+ghost use Rattle.std.specs.Prelude.{◌≡◌, ◌+◌, ◌-◌, ◌*◌, ◌^◌, ◌≤◌, ◌++◌, ◌∷◌, [], true, false, length, take, map, option_map, option_copied, MatchOption, IfOk, OnOk, OnErr, IsOk, IsSome};
 ghost use Rattle.view_sets.specs.Slots.{among};
 ghost use Rattle.slot_list.specs.Versions.{at, put, without, rehomed, with_slot, without_slot};
 ghost use Rattle.accounts_index.specs.Bins.{AreUsed};
@@ -157,6 +157,18 @@ impl Bin {
         ensures rise { IsOrdered self.new }
     {
         edits::settle(&mut self.entries, key, slot, place);
+    }
+
+    #[tactic(auto, using(crate::proofs::Used::used_seen, crate::proofs::Ordered::seen_ordered))]
+    pub fn put_held(&mut self, key: &Key, version: Version) -> Result<bool, AllocError>
+        ensures ok { OnOk result (let old = kept self.old key.now.0 in
+            IsWith self.old self.new key.now.0 (record old { versions = put version old.versions; held = with_slot version.slot old.held })) }
+        ensures was { IfOk result (λ was. was ≡ among version.slot (kept self.old key.now.0).held) }
+        ensures err { OnErr result (self.new ≡ self.old) }
+        ensures used { AreUsed self.new }
+        ensures rise { IsOrdered self.new }
+    {
+        edits::put_held(&mut self.entries, self.alloc, key, version)
     }
 
     #[tactic(auto, using(crate::proofs::Used::used_seen, crate::proofs::Ordered::seen_ordered))]

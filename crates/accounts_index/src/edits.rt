@@ -1,4 +1,4 @@
-ghost use Rattle.std.specs.Prelude.{◌≡◌, ℕ, ◌+◌, ◌<◌, ◌≤◌, ◌++◌, ◌∷◌, [], true, false, List, length, OnOk, OnErr, IsOk, IsSome};
+ghost use Rattle.std.specs.Prelude.{◌≡◌, ℕ, ◌+◌, ◌<◌, ◌≤◌, ◌++◌, ◌∷◌, [], true, false, List, length, OnOk, OnErr, IfOk, IsOk, IsSome};
 ghost use Rattle.view_sets.specs.Slots.{among};
 ghost use Rattle.slot_list.specs.Versions.{at, put, without, rehomed, with_slot, without_slot};
 ghost use Rattle.accounts_index.specs.Index.{kept, IsWith};
@@ -204,6 +204,41 @@ pub fn settle(entries: &mut Vec<Entry>, key: &Key, slot: Slot, place: Place)
             forget(&mut lists.expected, slot);
         }
         Err(_) => unreachable!(),
+    }
+}
+
+/// Puts a version in, in place of the one that the key has in its slot, and holds the key in this slot. Says whether it
+/// was held there already.
+pub fn put_held(
+    entries: &mut Vec<Entry>,
+    alloc: Global,
+    key: &Key,
+    version: Version,
+) -> Result<bool, AllocError>
+    requires { AreEntries entries.old.items }
+    ensures entries { AreEntries entries.new.items }
+    ensures ok { OnOk result (let old = kept (seen entries.old.items) key.now.0 in
+        IsWith (seen entries.old.items) (seen entries.new.items) key.now.0
+        (record old { versions = put version old.versions; held = with_slot version.slot old.held })) }
+    ensures was { IfOk result (λ was. was ≡ among version.slot (kept (seen entries.old.items) key.now.0).held) }
+    ensures err { OnErr result (seen entries.new.items ≡ seen entries.old.items) }
+{
+    match find_place(entries, key) {
+        Ok(place) => {
+            let lists = &mut entries[place].lists;
+            let expected = lists.expected.as_slice().len();
+            lists.list.room(expected + 1)?;
+            lists.list.put(version)?;
+            Ok(lists.list.keep_held(version.slot))
+        }
+        Err(place) => {
+            let mut list = SlotList::new(alloc);
+            list.room(1)?;
+            list.put(version)?;
+            list.hold(version.slot);
+            insert(entries, place, *key, list, SmallVec::new(alloc))?;
+            Ok(false)
+        }
     }
 }
 

@@ -183,6 +183,21 @@ impl AccountsIndex {
         bin.settle(key, slot, place);
     }
 
+    /// Puts a version in, in place of the one that the key has in its slot, and holds the key in this slot, in one
+    /// search. Says whether it was held there already.
+    pub fn put_held(&mut self, key: &Key, version: Version) -> Result<bool, AllocError>
+        ensures ok { OnOk result (let old = kept self.old key.now.0 in
+            IsWith self.old self.new key.now.0 (record old { versions = put version old.versions; held = with_slot version.slot old.held })) }
+        ensures was { IfOk result (λ was. was ≡ among version.slot (kept self.old key.now.0).held) }
+        ensures err { OnErr result (self.new ≡ self.old) }
+    {
+        let number = bin_of(key);
+        let group = &mut self.groups[number / GROUP];
+        grow(group, self.alloc)?;
+        let bin = &mut group[number % GROUP];
+        bin.put_held(key, version)
+    }
+
     /// Holds a key in a slot no longer.
     pub fn unhold(&mut self, key: &Key, slot: Slot)
         ensures { let old = kept self.old key.now.0 in

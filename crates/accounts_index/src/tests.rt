@@ -131,6 +131,18 @@ fn a_settled_version_has_its_place_and_is_held(rt: HostRuntime) -> Result<(), Fa
     Ok(())
 }
 
+#[test]
+fn a_version_is_put_in_and_held_at_once(rt: HostRuntime) -> Result<(), Fail> {
+    let key = key(1);
+    let mut index = AccountsIndex::new(rt.alloc())?;
+    for (tomb, was) in [(false, false), (true, true)] {
+        assert_eq!(rt; index.put_held(&key, version(5, STORED, tomb))?, was);
+        assert_eq!(rt; index.version(&key, 5), Some(version(5, STORED, tomb)));
+        assert_eq!(rt; find(&index, &key), Some((1, 1)));
+    }
+    Ok(())
+}
+
 // A key that begins with four bytes, and goes on high.
 fn key_from(first: [u8; 4]) -> Key {
     let mut bytes = [255; 32];

@@ -1,4 +1,4 @@
-ghost use Rattle.std.specs.Prelude.{◌≡◌, ◌+◌, ◌<◌, ◌≤◌, false, OnOk, OnErr, IsOk, IsSome, is_some, length, vec_len};
+ghost use Rattle.std.specs.Prelude.{◌≡◌, ◌+◌, ◌<◌, ◌≤◌, if◌then◌else◌, OnOk, OnErr, IsOk, IsSome, is_some, length, vec_len};
 ghost use Rattle.std.specs.Vec.{vec_capacity};
 ghost use Rattle.std.specs.List.{insert};
 ghost use Rattle.std.specs.List.Sorted.{IsStrictlyIncreasing};
@@ -74,20 +74,21 @@ pub fn rehome_version(versions: &mut SmallVec<Version, 2>, slot: u64, place: Pla
     }
 }
 
-/// Puts a slot at its place, for which there is room.
-pub fn put_slot(slots: &mut Vec<u64>, slot: u64)
+/// Puts a slot at its place, for which there is room, and says whether it was there already.
+pub fn put_slot(slots: &mut Vec<u64>, slot: u64) -> bool
     requires room { vec_len slots.old < vec_capacity slots.old }
     requires rise { IsStrictlyIncreasing slots.old.items }
-    requires absent { among slot slots.old.items ≡ false }
+    ensures there { result ≡ among slot slots.old.items }
     ensures rise { IsStrictlyIncreasing slots.new.items }
     ensures items { slots.new.items ≡ with_slot slot slots.old.items }
-    ensures len { vec_len slots.new ≡ vec_len slots.old + 1 }
+    ensures len { vec_len slots.new ≡ (if result then vec_len slots.old else vec_len slots.old + 1) }
     ensures capacity { vec_capacity slots.new ≡ vec_capacity slots.old }
 {
     match place_of_slot(slots, slot) {
-        Ok(_) => unreachable!(),
+        Ok(_) => true,
         Err(place) => {
             let _ = slots.insert(place, slot);
+            false
         }
     }
 }

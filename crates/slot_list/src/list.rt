@@ -121,7 +121,19 @@ impl SlotList {
         requires absent { among slot self.old.held ≡ false }
         ensures { self.new ≡ record self.old { held = with_slot slot self.old.held; spare = self.old.spare - 1 } }
     {
-        put_slot(&mut self.held, slot);
+        let _ = put_slot(&mut self.held, slot);
+    }
+
+    /// Holds the key in a slot, in which it may be held already, and says whether it was. It uses one spare place at
+    /// most.
+    pub fn keep_held(&mut self, slot: u64) -> bool
+        requires { 0 < self.old.spare }
+        ensures there { result ≡ among slot self.old.held }
+        ensures held { self.new.held ≡ with_slot slot self.old.held }
+        ensures versions { self.new.versions ≡ self.old.versions }
+        ensures spare { self.old.spare ≤ self.new.spare + 1 }
+    {
+        put_slot(&mut self.held, slot)
     }
 
     /// Holds the key in a slot no longer, and says whether it was held there.

@@ -37,7 +37,7 @@ any_dedup_from p k (x ∷ xs) = elim (cases_Bool (eqb x k)) [
 ]
 
 -- the first of equal numbers stays
-any_dedup : (p : ℕ → Bool) (xs : List ℕ) → list_any p (dedup eqb xs) ≡ list_any p xs
+pub any_dedup : (p : ℕ → Bool) (xs : List ℕ) → list_any p (dedup eqb xs) ≡ list_any p xs
 any_dedup p [] = refl
 any_dedup p (x ∷ xs) = any_dedup_from p x xs
 

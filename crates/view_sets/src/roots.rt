@@ -1,4 +1,4 @@
-ghost use Rattle.std.specs.Prelude.{◌≡◌, ◌<◌, [], ◌∷◌, ◌++◌, IfSome, OnOk, OnErr};
+ghost use Rattle.std.specs.Prelude.{◌≡◌, ℕ, ◌<◌, [], ◌∷◌, ◌++◌, IfSome, OnOk, OnErr};
 ghost use Rattle.std.specs.List.Sorted.{IsStrictlyIncreasing};
 ghost use Rattle.view_sets.specs.Slots.{among, newest};
 
@@ -31,6 +31,17 @@ impl RootSet {
         RootSet {
             slots: Vec::new(alloc),
         }
+    }
+
+    /// These slots, which may stand in any order and more than once. It takes no memory.
+    pub fn of(slots: Vec<u64>) -> RootSet
+        ensures rise { IsStrictlyIncreasing result }
+        ensures each { (slot : ℕ) → among slot result ≡ among slot slots.items }
+    {
+        let mut sorted = slots;
+        sorted.sort_unstable();
+        sorted.dedup();
+        RootSet { slots: sorted }
     }
 
     /// A slot above the newest root becomes the newest.

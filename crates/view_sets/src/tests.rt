@@ -32,3 +32,12 @@ fn roots_are_the_slots_added(rt: HostRuntime) -> Result<(), Fail> {
     }
     Ok(())
 }
+
+#[test]
+fn roots_are_made_of_slots_in_any_order(rt: HostRuntime) -> Result<(), Fail> {
+    let slots = vec![in rt.alloc(); 7, 4, 7]?;
+    let roots = RootSet::of(slots);
+    assert_eq!(rt; roots.newest(), Some(7));
+    assert!(rt; roots.contains(4) && !roots.contains(5));
+    Ok(())
+}
