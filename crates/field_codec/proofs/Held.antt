@@ -4,13 +4,14 @@ use Rattle.std.specs.Prelude.{IsSomeAnd, decimal}
 use Rattle.std.specs.Char.{is_ascii_digit}
 use Rattle.std.specs.Cmp.Lexicographic.{slice_cmp, bytes_decides}
 use Rattle.std.specs.List.{AllByRecursion, suffix_len}
+use Rattle.std.specs.List.Sorted.{IsStrictlyIncreasing}
 use Rattle.std.specs.Ordering.{nat_cmp}
 use Rattle.std.specs.Str.{all_ascii_digits, bytes_eq}
 use Rattle.std.specs.Str.Parse.{digits_value}
 use Rattle.std.proofs.lemmas.Bool.{and_from, and_parts, eq-eqb, eqb-true, le-ltb, ltb-false, true≢false}
 use Rattle.std.proofs.lemmas.Fmt.{digits_decimal}
 use Rattle.std.proofs.lemmas.List.{get_or-append-add, length-append}
-use Rattle.std.proofs.lemmas.List.Elements.{All-head, All-tail, All-cons, All-nil}
+use Rattle.std.proofs.lemmas.List.Elements.{All-head, All-map, All-tail, All-cons, All-nil}
 use Rattle.std.proofs.lemmas.List.Sums.{suffix_len_is}
 use Rattle.std.proofs.lemmas.Map.Keys.{sorted_head, sorted_tail}
 use Rattle.std.proofs.lemmas.Map.Text.{is_eq-slice_cmp}
@@ -21,8 +22,9 @@ use Rattle.dir_io.specs.Files.{Files, IsRising, file_of, has_prefix, is_among}
 use Rattle.field_codec.specs.declared.fields.FieldStorage.{FieldStorage}
 use Rattle.field_codec.specs.Manifest.{Content, IsManifest, slots_of}
 use Rattle.field_codec.specs.Paths.{if_manifest, last_digits, manifest_path, manifest_slots, prefix_of, slot_of_path, status_path, storage_path, version_path}
-use Rattle.field_codec.specs.Forms.{FindsAt, FindsThen, Flaw, Found, HoldsForm, NoFile, NoVersion, BadVersion, SlotAbove, SlotMismatch, UnknownFile, above, bytes_at, flaw_in, form_in, is_version, known_paths, mismatch, missing, one_slot, or_flaw, paths_of, read, slot_in, unknown, unless, unread}
-use Rattle.field_codec.proofs.Listed.{path_is, first_listed}
+use Rattle.field_codec.specs.Forms.{FindsAt, FindsThen, Flaw, Found, HoldsForm, IsInOrder, NamedFile, NoFile, NoVersion, BadVersion, SlotAbove, SlotMismatch, UnknownFile, above, bytes_at, file_for, flaw_in, form_in, is_version, known_paths, mismatch, missing, one_slot, or_flaw, paths_of, read, slot_in, unknown, unless, unread}
+use Rattle.field_codec.proofs.Answering.{none_is}
+use Rattle.field_codec.proofs.Listed.{fused, path_is, first_listed}
 use Rattle.field_codec.proofs.Manifests.{manifest_there, one_reading}
 use Rattle.field_codec.proofs.Names.{version_no_manifest, manifest_no_storage, version_under, manifest_under, storage_under}
 
@@ -89,9 +91,9 @@ own_slot numbers name slot small =
     ap (λ (w : List ℕ). if_manifest name (manifest_path name slot) (number_of w)) digits ∙ ap (if_manifest name (manifest_path name slot)) (numbers slot small)
     ∙ ap (λ (b : Bool). cond b (Some slot) None) (bytes_same (manifest_path name slot) (manifest_path name slot) refl)
 
-none_is : number_of [] ≡ None
+no_number : number_of [] ≡ None
 unfolding number_of
-none_is = refl
+no_number = refl
 
 status_ends : (name : List ℕ) → status_path name ≡ (name ++ codes "/snapshots/status_cach") ++ 101 ∷ []
 unfolding status_path
@@ -101,7 +103,7 @@ status_slot : (name : List ℕ) → slot_of_path name (status_path name) ≡ Non
 unfolding slot_of_path
 status_slot name =
     let digits : last_digits (status_path name) ≡ [] = ap last_digits (status_ends name) ∙ digits_end (name ++ codes "/snapshots/status_cach") [] 101 refl refl in
-    ap (λ (w : List ℕ). if_manifest name (status_path name) (number_of w)) digits ∙ ap (if_manifest name (status_path name)) none_is
+    ap (λ (w : List ℕ). if_manifest name (status_path name) (number_of w)) digits ∙ ap (if_manifest name (status_path name)) no_number
 
 -- a path that is no manifest's has no slot
 no_slot : (name path : List ℕ) → ((slot : ℕ) → path ≡ manifest_path name slot → ⊥) → slot_of_path name path ≡ None
@@ -226,6 +228,10 @@ mapped_none : {X Y : Type 0} (f : X → Y) (o : Option X) → option_map f o ≡
 mapped_none f None e = refl
 mapped_none f (Some x) e = absurd cc
 
+or_none : (a b : Option Flaw) → or_flaw a b ≡ None → (a ≡ None) × (b ≡ None)
+or_none None b e = (refl, e)
+or_none (Some flaw) b e = absurd cc
+
 -- ---- the flaws, one after another
 
 some_then : (o : Option (List ℕ)) (P : List ℕ → Type 0) → IsSomeAnd o P → (bytes : List ℕ) × (o ≡ Some bytes) × P bytes
@@ -330,10 +336,6 @@ module _ (files : Files) (name : List ℕ) (names : List (List ℕ)) (complete :
   ok_unless None form found e = (refl, cc)
   ok_unless (Some flaw) form found e = absurd cc
 
-  or_none : (a b : Option Flaw) → or_flaw a b ≡ None → (a ≡ None) × (b ≡ None)
-  or_none None b e = (refl, e)
-  or_none (Some flaw) b e = absurd cc
-
   held_at : (slot : ℕ) (content : Content) → is_among names (version_path name) ≡ true → is_version (bytes_at files (version_path name)) ≡ true → is_among names (manifest_path name slot) ≡ true
       → IsManifest (bytes_at files (manifest_path name slot)) content → flaw_in name names slot content ≡ None → HoldsForm files name content
   held_at slot content has_version good has_manifest is none =
@@ -386,3 +388,23 @@ module _ (files : Files) (name : List ℕ) (names : List (List ℕ)) (complete :
       by : (r : Result ℕ Flaw) → slot_in name names files ≡ r → FindsThen name names files r (Ok found) → (content : Content) × HoldsForm files name content × (found ≡ form_in name content)
       by (Err flaw) is never = absurd cc
       by (Ok slot) is finds = at slot is finds
+
+-- a form is in order where its storages rise and none is above its slot
+pub in_order : (name : List ℕ) (slot : ℕ) (content : Content) (found : Found) → IsStrictlyIncreasing (slots_of content.storages) → Ok true ≡ unless (or_flaw (mismatch slot content) (above content)) true → found ≡ form_in name content → IsInOrder found
+in_order name slot content found rise passes is = subst IsInOrder (sym is) (record {
+  rise = subst (λ (l : List ℕ). IsStrictlyIncreasing l) (sym (fused (λ (f : NamedFile). f.slot) (file_for name) content.storages)) rise;
+  upto = All-map (λ (f : NamedFile). f.slot ≤ content.slot) (file_for name) content.storages
+      (all_within content.slot content.storages (none_found (λ n. nat_lt content.slot n) (slots_of content.storages) (mapped_none (λ slot. SlotAbove slot content.slot) _ (or_none (mismatch slot content) (above content) (none_is _ passes)).1)));
+})
+
+-- files hold one form
+pub one_form : NumberTextsAreNumbers → (files : Files) (name : List ℕ) (content other : Content) → HoldsForm files name content → HoldsForm files name other → content ≡ other
+one_form numbers files name content other h more =
+    let m = some_then (file_of files (manifest_path name content.slot)) (λ bytes. IsManifest bytes content) h.manifest in
+    let own = own_slot numbers name content.slot (let is = m.2 in is.slot_fits) in
+    elim (known_slot name other (manifest_path name content.slot) (more.known (manifest_path name content.slot) (manifest_under name content.slot) (ap is_some m.1))) [
+      | inl same ↦
+          let there : file_of files (manifest_path name other.slot) ≡ Some m.0 = ap (file_of files) same ∙ m.1 in
+          one_reading m.0 content other m.2 (subst (λ (o : Option (List ℕ)). IsSomeAnd o (λ bytes. IsManifest bytes other)) there more.manifest)
+      | inr none ↦ let never : None ≡ Some content.slot = sym none ∙ own in absurd cc
+    ]

@@ -8,6 +8,7 @@ pub mod Manifests
 pub mod Names
 pub mod Numbers
 pub mod Rising
+pub mod Searching
 pub mod Sequences
 pub mod Skipping
 pub mod Slots

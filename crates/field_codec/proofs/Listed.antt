@@ -1,5 +1,5 @@
 -- Names of files, and what is looked for among them.
-use Rattle.std.proofs.Common.{◌≡◌, ℕ, zero, suc, ◌+◌, ◌<◌, ◌≤◌, List, [], ◌∷◌, ◌++◌, length, map, take, drop, get_or, find, not, Bool, true, false, cond, ◌||◌, Option, Some, None, option_map, Result, Ok, Err, refl, sym, ap, subst, ◌∙◌, inl, inr, arith, rules, string_bytes}
+use Rattle.std.proofs.Common.{◌≡◌, ℕ, zero, suc, ◌+◌, ◌<◌, ◌≤◌, List, [], ◌∷◌, ◌++◌, length, map, take, get_or, find, not, Bool, true, false, cond, ◌||◌, Option, Some, None, option_map, Ok, Err, refl, sym, ap, subst, ◌∙◌, inl, inr, arith, string_bytes}
 use Rattle.std.specs.List.{list_any, filter_map}
 use Rattle.std.specs.Str.{bytes_eq}
 use Rattle.std.specs.declared.string.String.{String}
@@ -35,6 +35,24 @@ find_alike p q [] same = refl
 find_alike p q (x ∷ xs) same = elim (cases_Bool (q x)) [
   | inl holds ↦ let too : p x ≡ true = same x ∙ holds in rw (holds, too) refl
   | inr fails ↦ let too : p x ≡ false = same x ∙ fails in rw (fails, too) (find_alike p q xs same)
+]
+
+-- the first that passes, after those before it failed
+pub first_there : {X : Type 0} (p : X → Bool) (xs : List X) (i : ℕ) (x : X) → i < length xs → x ≡ get_or xs i x → find p (take i xs) ≡ None → p x ≡ true → Some x ≡ find p xs
+first_there p [] i x lt here none passes = absurd (omega arith)
+first_there p (y ∷ xs) zero x lt here none passes = let same : x ≡ y = here in rw (sym same, passes) refl
+first_there p (y ∷ xs) (suc i) x lt here none passes = elim (cases_Bool (p y)) [
+  | inl holds ↦ let some : Some y ≡ None = rw holds at none in absurd cc
+  | inr fails ↦ rw fails (first_there p xs i x (omega arith) here (rw fails at none) passes)
+]
+
+-- one more that fails
+pub none_more : {X : Type 0} (p : X → Bool) (xs : List X) (i : ℕ) (x : X) → i < length xs → x ≡ get_or xs i x → find p (take i xs) ≡ None → p x ≡ false → find p (take (i + 1) xs) ≡ None
+none_more p [] i x lt here none fails = absurd (omega arith)
+none_more p (y ∷ xs) zero x lt here none fails = let other : p y ≡ false = ap p (sym here) ∙ fails in rw other refl
+none_more p (y ∷ xs) (suc i) x lt here none fails = elim (cases_Bool (p y)) [
+  | inl holds ↦ let some : Some y ≡ None = rw holds at none in absurd cc
+  | inr other ↦ let on : suc i + 1 ≡ suc (i + 1) = omega arith in rw (on, other) (none_more p xs i x (omega arith) here (rw other at none) fails)
 ]
 
 pub map_more : {X Y : Type 0} (f : X → Y) (xs : List X) (i : ℕ) (d : X) → i < length xs → map f (take (i + 1) xs) ≡ map f (take i xs) ++ f (get_or xs i d) ∷ []
@@ -135,7 +153,7 @@ one_of_them name names (slot ∷ rest) some is = first_listed name names slot re
 
 -- ---- the files of storages
 
-fused : {X Y Z : Type 0} (f : Y → Z) (g : X → Y) (xs : List X) → map f (map g xs) ≡ map (λ x. f (g x)) xs
+pub fused : {X Y Z : Type 0} (f : Y → Z) (g : X → Y) (xs : List X) → map f (map g xs) ≡ map (λ x. f (g x)) xs
 fused f g [] = refl
 fused f g (x ∷ xs) = ap (λ (l : List _). f (g x) ∷ l) (fused f g xs)
 

@@ -1,5 +1,5 @@
 -- The names of a snapshot's files.
-use Rattle.std.proofs.Common.{◌≡◌, ℕ, ◌<◌, ◌≤◌, ◌^◌, List, [], ◌∷◌, ◌++◌, length, take, get_or, codes, Bool, true, false, ◌&&◌, leb, nat_eq, refl, sym, ap, ◌∙◌, arith, append_assoc}
+use Rattle.std.proofs.Common.{◌≡◌, ℕ, ◌<◌, ◌^◌, List, [], ◌∷◌, ◌++◌, get_or, codes, Bool, true, ◌&&◌, leb, nat_eq, refl, sym, ap, ◌∙◌, arith, append_assoc}
 use Rattle.std.specs.Char.{is_ascii_digit}
 use Rattle.std.specs.Fmt.{decimal}
 use Rattle.std.specs.Cmp.Lexicographic.{pointwise}
@@ -11,7 +11,7 @@ use Rattle.std.proofs.lemmas.Fmt.{decimal_injective, digits_decimal}
 use Rattle.std.proofs.lemmas.List.{append_cancel_left}
 use Rattle.std.proofs.lemmas.Str.Parse.{IsNumeralModel, numerals_by_value, tells_all_ascii_digits}
 use Rattle.dir_io.specs.Files.{has_prefix}
-use Rattle.field_codec.specs.Paths.{prefix_of, version_path, status_path, manifest_path, storage_path}
+use Rattle.field_codec.specs.Paths.{prefix_of, version_path, manifest_path, storage_path}
 
 -- ---- what they begin with
 

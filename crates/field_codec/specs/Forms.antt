@@ -1,6 +1,7 @@
 -- What the files of a directory are as a snapshot, before its storages are looked at.
 use Rattle.std.specs.Prelude.{◌≡◌, ℕ, ◌≤◌, ◌==◌, nat_lt, Bool, true, List, [], ◌∷◌, ◌++◌, map, length, codes, Option, Some, None, is_some, option_map, IsSomeAnd, Result, Ok, Err, not, ◌||◌, if◌then◌else◌, find}
 use Rattle.std.specs.List.{All}
+use Rattle.std.specs.List.Sorted.{IsStrictlyIncreasing}
 use Rattle.std.specs.Str.{bytes_eq}
 use Rattle.dir_io.specs.Files.{Files, file_of, has_prefix, is_among, IsListing}
 use Rattle.field_codec.specs.declared.fault.FieldFault.{FieldFault}
@@ -35,6 +36,11 @@ paths_of name storages = map (λ s. storage_path name s.slot s.id) storages
 -- the form of what a manifest says
 abbrev pub form_in : List ℕ → Content → Found
 form_in name content = record { slot = content.slot; files = map (file_for name) content.storages }
+
+-- the files are by rising slot, and none is above the form's
+pub record IsInOrder (form : Found) : Type 0 where
+  pub rise : IsStrictlyIncreasing (map (λ file. file.slot) form.files)
+  pub upto : All (λ file. file.slot ≤ form.slot) form.files
 
 -- the names that a snapshot's files may have
 abbrev pub known_with : List ℕ → ℕ → List (List ℕ) → List (List ℕ)

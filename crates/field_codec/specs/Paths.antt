@@ -1,17 +1,9 @@
--- Names of snapshots, and of the files under one.
-use Rattle.std.specs.Prelude.{ℕ, ◌==◌, nat_lt, nat_le, Bool, List, [], ◌∷◌, ◌++◌, length, codes, decimal, Option, Some, None, ◌&&◌, ◌||◌, not, if◌then◌else◌, slice_index, ◌-◌, drop}
-use Rattle.std.specs.Char.{is_ascii_alphanumeric, is_ascii_digit}
-use Rattle.std.specs.List.{filter_map, list_all, suffix_len}
+-- Names of the files of a snapshot.
+use Rattle.std.specs.Prelude.{ℕ, List, ◌++◌, length, codes, decimal, Option, Some, None, if◌then◌else◌, ◌-◌, drop}
+use Rattle.std.specs.Char.{is_ascii_digit}
+use Rattle.std.specs.List.{filter_map, suffix_len}
 use Rattle.std.specs.Str.{bytes_eq}
 use Rattle.text_fields.specs.Numbers.{number_of}
-
--- a character that a name may have: a letter, a digit, '_' or '-'
-abbrev pub is_name_char : ℕ → Bool
-is_name_char c = is_ascii_alphanumeric c || (c == 95 || c == 45)
-
--- 1 to 64 such characters, of which the first is not '-'
-abbrev pub is_name : List ℕ → Bool
-is_name word = nat_lt 0 (length word) && (nat_le (length word) 64 && (not (slice_index word 0 == 45) && list_all (λ c. is_name_char c) word))
 
 -- what the names of a snapshot's files begin with
 unfoldable pub prefix_of : List ℕ → List ℕ

@@ -1,7 +1,8 @@
 // The checks of a form over names and a manifest's fields.
 ghost use Rattle.std.specs.Prelude.{◌≡◌, ℕ, List, true, Ok, Err, IfOk, map, find, not, nat_lt, option_map, string_bytes};
 ghost use Rattle.std.specs.BTreeSet.{contains_text};
-ghost use Rattle.dir_io.specs.Files.{is_among, texts};
+ghost use Rattle.std.specs.List.Sorted.{IsStrictlyIncreasing};
+ghost use Rattle.dir_io.specs.Files.{IsRising, is_among, texts};
 ghost use Rattle.field_codec.specs.Manifest.{content_of, slots_of};
 ghost use Rattle.field_codec.specs.Paths as paths;
 ghost use Rattle.field_codec.specs.Forms as forms;
@@ -24,14 +25,12 @@ pub(crate) fn is_version(bytes: &[u8]) -> bool
 
 // The path is one of the names.
 pub(crate) fn is_listed(names: &[String], path: &str) -> bool
+    requires { IsRising (texts names.now) }
     ensures { result ≡ is_among (texts names.now) path.now }
 {
-    for name in names {
-        if name.as_str() == path {
-            return true;
-        }
-    }
-    false
+    names
+        .binary_search_by(|name| name.as_str().cmp(path))
+        .is_ok()
 }
 
 // The slot of the one manifest.
@@ -69,7 +68,9 @@ pub(crate) fn form_of(
     slot: u64,
     manifest: &[u8],
 ) -> Result<Form, FormFault>
-    ensures { Given ⊥ form_seen (forms.FindsAt name.now (texts names.now) slot manifest.now) result }
+    requires { IsRising (texts names.now) }
+    ensures exact { Given ⊥ form_seen (forms.FindsAt name.now (texts names.now) slot manifest.now) result }
+    ensures order { IfOk result (λ form. forms.IsInOrder (form_seen form)) }
 {
     let fields = decode_fields(alloc, manifest)?;
     form_of_fields(alloc, name, names, slot, &fields)
@@ -83,11 +84,14 @@ fn form_of_fields(
     slot: u64,
     fields: &Fields,
 ) -> Result<Form, FormFault>
-    ensures { Given ⊥ form_seen (λ found. found ≡ forms.unless (forms.flaw_in name.now (texts names.now) slot (content_of fields.now)) (forms.form_in name.now (content_of fields.now))) result }
+    requires names { IsRising (texts names.now) }
+    requires slots { IsStrictlyIncreasing (slots_of fields.now.storages.items) }
+    ensures exact { Given ⊥ form_seen (λ found. found ≡ forms.unless (forms.flaw_in name.now (texts names.now) slot (content_of fields.now)) (forms.form_in name.now (content_of fields.now))) result }
+    ensures order { IfOk result (λ form. forms.IsInOrder (form_seen form)) }
 {
     check_slots(slot, fields)?;
     let files = files_of(alloc, name, fields)?;
-    check_listed(alloc, names, &files)?;
+    check_listed(names, &files)?;
     check_known(alloc, name, names, fields, &files)?;
     Ok(Form {
         slot: fields.slot,
@@ -141,11 +145,11 @@ fn files_of(alloc: Global, name: &str, fields: &Fields) -> Result<Vec<FormFile>,
 }
 
 // Each file is among the names.
-fn check_listed(alloc: Global, names: &[String], files: &[FormFile]) -> Result<(), FormFault>
+fn check_listed(names: &[String], files: &[FormFile]) -> Result<(), FormFault>
+    requires { IsRising (texts names.now) }
     ensures { PassesUnless (forms.missing (texts names.now) (map (λ file. string_bytes file.name) files.now)) result }
 {
-    let listed = set_of(alloc, names)?;
-    match first_missing(&listed, files) {
+    match first_missing(names, files) {
         Some(file) => Err(FormFault::NoFile {
             name: file.name.clone()?,
         }),
@@ -153,11 +157,17 @@ fn check_listed(alloc: Global, names: &[String], files: &[FormFile]) -> Result<(
     }
 }
 
-// The first file whose name isn't in the set.
-fn first_missing<'a>(listed: &BTreeSet<String>, files: &'a [FormFile]) -> Option<&'a FormFile>
-    ensures { option_map (λ file. file.now) result ≡ find (λ file. not (contains_text listed.now (string_bytes file.name))) files.now }
+// The first file whose name isn't among the names.
+fn first_missing<'a>(names: &[String], files: &'a [FormFile]) -> Option<&'a FormFile>
+    requires { IsRising (texts names.now) }
+    ensures { option_map (λ file. file.now) result ≡ find (λ file. not (is_among (texts names.now) (string_bytes file.name))) files.now }
 {
-    files.iter().find(|file| !listed.contains(&file.name))
+    for file in files {
+        if !is_listed(names, &file.name) {
+            return Some(file);
+        }
+    }
+    None
 }
 
 // Each name is that of a file of the snapshot.

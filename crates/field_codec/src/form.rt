@@ -42,6 +42,7 @@ pub struct FormFile {
 pub fn read_form<D: Dir>(alloc: Global, name: &str, dir: &mut D) -> Result<Form, FormFault>
     // Where the files are told: their first flaw, or the form that they hold.
     ensures exact { IfSome (D.files dir.old) (λ told. Given (Unit {0}) form_seen (forms.Finds told name.now) result) }
+    ensures order { IfOk result (λ form. forms.IsInOrder (form_seen form)) }
     ensures files { D.files dir.new ≡ D.files dir.old }
     ensures cause { HasFormCause (D.faults dir.old) (D.faults dir.new) result }
 {

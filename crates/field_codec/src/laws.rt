@@ -50,12 +50,14 @@ pub fn names_of_files_differ()
         → paths.storage_path name slot id ≡ paths.storage_path name other other_id → slot ≡ other }
 {}
 
-/// Files that hold a form are found as just this form, and files in which a form is found hold it.
+/// Files that hold a form are found as just this form, and files in which a form is found hold it. They hold one form.
 pub fn held_forms_are_found()
     ensures found { (files : Files) (name : List ℕ) (content : Content) (found : Result Found Flaw)
         → HoldsForm files name content → Finds files name found → found ≡ Ok (form_in name content) }
     ensures held { (files : Files) (name : List ℕ) (form : Found)
         → Finds files name (Ok form) → (content : Content) × HoldsForm files name content × (form ≡ form_in name content) }
+    ensures one { (files : Files) (name : List ℕ) (content other : Content)
+        → HoldsForm files name content → HoldsForm files name other → content ≡ other }
 {
     number_texts_are_numbers();
 }

@@ -15,6 +15,10 @@
 //! `specs/Manifest.antt` says which bytes are a manifest, by concatenation of its parts; [`decode_fields`] and
 //! [`encode_fields`] are proved to agree with it both ways. No number in a file takes memory before the bytes that
 //! it speaks of are read.
+//!
+//! [`read_form`] gives the form of the snapshot of a name in a directory: it looks through the names of the
+//! snapshot's files, reads the version and the manifest, and answers the slot and the files of the storages, or the
+//! first fault. `specs/Forms.antt` says which files hold a form, and what the first fault is.
 #![tactic(auto)]
 
 mod checks;
@@ -35,8 +39,9 @@ pub use laws::{
     held_forms_are_found, manifests_are_read, manifests_have_one_reading, names_of_files_differ,
     written_manifests_are_read,
 };
-pub use name::{is_name, manifest_path, prefix_of, status_path, storage_path, version_path};
+pub use name::{manifest_path, prefix_of, status_path, storage_path, version_path};
 pub use read::decode_fields;
+pub use text_fields::is_name;
 pub use write::encode_fields;
 
 #[cfg(test)]

@@ -1,42 +1,9 @@
-// Names of snapshots, and of the files under one.
+// Names of the files of a snapshot.
 ghost use Rattle.std.specs.Prelude.{◌≡◌, IfOk, string_bytes};
-ghost use Rattle.std.specs.List.{list_all};
 ghost use Rattle.field_codec.specs.Paths as paths;
 
 use std::alloc::{AllocError, Global};
 use text_fields::read_number;
-
-/// The most characters of a snapshot's name.
-const MAX_NAME_LEN: usize = 64;
-
-/// Whether a word is the name of a snapshot: 1 to 64 characters, each a letter, a digit, `_` or `-`, of which the first is
-/// not `-`.
-pub fn is_name(word: &[u8]) -> bool
-    ensures { result ≡ paths.is_name word.now }
-{
-    if word.is_empty() || word.len() > MAX_NAME_LEN {
-        return false;
-    }
-    word[0] != b'-' && has_name_chars(word)
-}
-
-// Each character is one that a name may have.
-fn has_name_chars(word: &[u8]) -> bool
-    ensures { result ≡ list_all (λ c. paths.is_name_char c) word.now }
-{
-    for byte in word {
-        if !is_name_char(*byte) {
-            return false;
-        }
-    }
-    true
-}
-
-fn is_name_char(byte: u8) -> bool
-    ensures { result ≡ paths.is_name_char byte }
-{
-    byte.is_ascii_alphanumeric() || byte == b'_' || byte == b'-'
-}
 
 /// What the names of all files of a snapshot begin with.
 #[tactic(auto, unfolding(crate::specs::Paths::prefix_of))]

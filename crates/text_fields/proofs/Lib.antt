@@ -2,3 +2,4 @@ pub mod HexTextLemmas
 pub mod NumberLemmas
 pub mod KeyLemmas
 pub mod DigitLemmas
+pub mod NameLemmas

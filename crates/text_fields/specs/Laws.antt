@@ -3,6 +3,7 @@ use Rattle.std.specs.Prelude.{◌≡◌, ◌↔◌, ◌<◌, ◌^◌, ℕ, List,
 use Rattle.std.specs.Fmt.{decimal}
 use Rattle.hex.specs.Hex.{IsBytes}
 use Rattle.text_fields.specs.Numbers.{IsNumberWord, number_of}
+use Rattle.text_fields.specs.Names.{IsNameWord, name_of}
 use Rattle.text_fields.specs.Keys.{IsKeyWord, key_of, key_text}
 
 -- a number's text is read as the number
@@ -20,3 +21,7 @@ KeyTextsAreKeys = (k : List ℕ) → length k ≡ 32 → IsBytes k → key_of (k
 -- a word is read as a 32-byte value exactly where it is such a word
 abbrev pub KeyWordsAreKeys : Type 0
 KeyWordsAreKeys = (w : List ℕ) → IsSome (key_of w) ↔ IsKeyWord w
+
+-- a word is read as a name exactly where it is one, and is itself that name
+abbrev pub NameWordsAreNames : Type 0
+NameWordsAreNames = (w name : List ℕ) → (name_of w ≡ Some name) ↔ IsNameWord w name

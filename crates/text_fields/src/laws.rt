@@ -1,4 +1,4 @@
-ghost use Rattle.text_fields.specs.Laws.{NumberTextsAreNumbers, NumberWordsAreNumbers, KeyTextsAreKeys, KeyWordsAreKeys};
+ghost use Rattle.text_fields.specs.Laws.{NumberTextsAreNumbers, NumberWordsAreNumbers, KeyTextsAreKeys, KeyWordsAreKeys, NameWordsAreNames};
 
 /// The text of a number is read as that number.
 pub fn number_texts_are_numbers()
@@ -19,4 +19,10 @@ pub fn key_texts_are_keys()
 /// digits.
 pub fn key_words_are_keys()
     ensures { KeyWordsAreKeys }
+{}
+
+/// A word is read as the name of a snapshot exactly where it has 1 to 64 characters that a name may have and
+/// doesn't begin with `-`; it is itself the name.
+pub fn name_words_are_names()
+    ensures { NameWordsAreNames }
 {}

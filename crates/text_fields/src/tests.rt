@@ -1,4 +1,6 @@
-use crate::{key_text, number_text, push_key, push_number, read_hex, read_key, read_number};
+use crate::{
+    key_text, number_text, push_key, push_number, read_hex, read_key, read_name, read_number,
+};
 use std::alloc::{AllocError, Global};
 use std::test::Fail;
 
@@ -97,5 +99,17 @@ fn numbers_are_read_and_printed(rt: HostRuntime) -> Result<(), Fail> {
     let mut text = String::from_str(alloc, "root ")?;
     push_number(&mut text, 700)?;
     assert!(rt; text.as_str() == "root 700");
+    Ok(())
+}
+
+#[test]
+fn names_are_read(rt: HostRuntime) -> Result<(), Fail> {
+    let longest = "abcdefghijklmnopqrstuvwxyzABCDEFGHIJKLMNOPQRSTUVWXYZ0123456789_-";
+    for name in ["s", "0-", "_", longest] {
+        assert!(rt; read_name(name.as_bytes()) == Some(name), "{name}");
+    }
+    for word in ["", "-a", "a/b", "a.b", "a b", "\u{e9}"] {
+        assert!(rt; read_name(word.as_bytes()).is_none(), "{word}");
+    }
     Ok(())
 }

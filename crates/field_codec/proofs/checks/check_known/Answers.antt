@@ -1,4 +1,4 @@
-use Rattle.std.proofs.Common.{◌≡◌, ℕ, List, map, string_bytes, rules, ◌∙◌, ap}
+use Rattle.std.proofs.Common.{map, string_bytes, rules, ◌∙◌, ap}
 use Rattle.dir_io.specs.Files.{is_among, texts}
 use Rattle.std.specs.BTreeSet.{contains_text}
 use Rattle.field_codec.specs.Forms.{UnknownFile, known_with}

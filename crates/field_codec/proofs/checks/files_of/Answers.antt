@@ -1,8 +1,8 @@
-use Rattle.std.proofs.Common.{◌≡◌, ◌≤◌, ℕ, List, take, get_or, length, map, ap, subst, ◌∙◌, arith, rules}
+use Rattle.std.proofs.Common.{◌≡◌, take, get_or, map, ap, ◌∙◌, arith}
 use Rattle.std.proofs.lemmas.Grind.{common_steps}
 use Rattle.field_codec.specs.declared.fields.FieldStorage.{FieldStorage}
 use Rattle.field_codec.specs.declared.form.FormFile.{FormFile}
-use Rattle.field_codec.specs.Forms.{NamedFile, file_for}
+use Rattle.field_codec.specs.Forms.{file_for}
 use Rattle.field_codec.proofs.Listed.{file_next}
 use Rattle.field_codec.proofs.checks.files_of.Goals as goal
 

@@ -1,12 +1,12 @@
-use Rattle.std.proofs.Common.{◌≡◌, true, length, get_or, ◌<◌, ◌≤◌, sym, string_bytes, rules, arith}
-use Rattle.std.specs.Str.{bytes_eq}
-use Rattle.field_codec.proofs.Listed.{there, all_in}
+use Rattle.std.proofs.Common.{◌∙◌, rules, of_calls, string_bytes}
+use Rattle.std.specs.Cmp.Lexicographic.{slice_cmp}
+use Rattle.std.specs.Ordering.{nat_cmp}
+use Rattle.std.proofs.lemmas.Fn.{always_returns_same}
+use Rattle.field_codec.proofs.Searching.{searched}
 use Rattle.field_codec.proofs.checks.is_listed.Goals as goal
 
-pub returns-then-eq : goal.returns-then-eq
-returns-then-eq c =
-    let same : bytes_eq (string_bytes c.name-item.result) c.args.path.now ≡ true = search rules in
-    there c.args.names.now c.args.path.now c.loop-name.name-index c.name-item.result (omega arith) c.name-item.is same
-
 pub returns : goal.returns
-returns c = all_in c.args.names.now c.args.path.now c.loop-name.name-index _ (omega arith) (sym c.loop-name.invariant)
+returns c =
+    let facts = c.binary_search_by.ensures in
+    c.is_ok.ensures.value ∙ searched c.args.names.now c.args.path.now c.binary_search_by.result c.requires facts.bound
+    (facts.position (λ n. slice_cmp nat_cmp (string_bytes n) c.args.path.now) (always_returns_same _ _ _ (λ a r f called. search (rules, of_calls))))

@@ -1,4 +1,4 @@
-use Rattle.std.proofs.Common.{◌≡◌, ◌∙◌, ap, sym, rules, arith, string_bytes}
+use Rattle.std.proofs.Common.{◌∙◌, ap, sym, arith}
 use Rattle.field_codec.specs.Paths.{slot_of_path}
 use Rattle.field_codec.proofs.Listed.{slots_some, slots_none}
 use Rattle.field_codec.proofs.checks.manifest_slots.Goals.{in-Some+in_ok-push-in-Some, in-None}

@@ -1,4 +1,4 @@
-use Rattle.std.proofs.Common.{◌≡◌, map, take, string_bytes}
+use Rattle.std.proofs.Common.{◌≡◌, take}
 use Rattle.dir_io.specs.Files.{texts}
 use Rattle.field_codec.specs.Paths.{manifest_slots}
 use Rattle.field_codec.proofs.checks.manifest_slots.Given as goal

@@ -1,4 +1,4 @@
-use Rattle.std.proofs.Common.{◌≡◌, true, ◌<◌, length, ◌∙◌, string_bytes, rules, arith}
+use Rattle.std.proofs.Common.{◌≡◌, true, ◌∙◌, string_bytes, rules, arith}
 use Rattle.std.proofs.lemmas.Map.Text.{btree_set_updates_text}
 use Rattle.field_codec.proofs.Listed.{one_more_in, all_in}
 use Rattle.field_codec.proofs.checks.set_of.Goals as goal
