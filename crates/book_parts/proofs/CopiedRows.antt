@@ -45,7 +45,7 @@ pub record Copies (m : State) (slot : ℕ) (old : Storage) : Type 0 where
 abbrev row_of : Placed → Row
 row_of placed = placed.row
 
-abbrev Below : Placed → Placed → Type 0
+abbrev pub Below : Placed → Placed → Type 0
 Below a b = a.offset < b.offset
 
 -- the rows of a key among those that pass
@@ -63,10 +63,10 @@ none_pass : {X : Type 0} (q : X → Bool) (xs : List X) → ((x : X) → q x ≡
 none_pass q [] none = refl
 none_pass q (x ∷ xs) none = ap (λ b. cond b (x ∷ filter q xs) (filter q xs)) (none x) ∙ none_pass q xs none
 
-pairs_head : (x : Placed) (xs : List Placed) → AllPairs Below (x ∷ xs) → All (Below x) xs
+pub pairs_head : (x : Placed) (xs : List Placed) → AllPairs Below (x ∷ xs) → All (Below x) xs
 pairs_head x xs pairs k d lt = pairs 0 (suc k) d (omega arith) (omega (arith, lt))
 
-pairs_tail : (x : Placed) (xs : List Placed) → AllPairs Below (x ∷ xs) → AllPairs Below xs
+pub pairs_tail : (x : Placed) (xs : List Placed) → AllPairs Below (x ∷ xs) → AllPairs Below xs
 pairs_tail x xs pairs i j d lt within = pairs (suc i) (suc j) d (omega (arith, lt)) (omega (arith, within))
 
 -- offsets that rise are those of records below one another

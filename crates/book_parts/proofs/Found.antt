@@ -13,10 +13,10 @@ pub none_some : {X : Type 0} {x : X} → None ≡ Some x → ⊥
 none_some e = cc
 
 module _ {X : Type 0} where
-  contains_here : (x : X) (xs : List X) → Contains (x ∷ xs) x
+  pub contains_here : (x : X) (xs : List X) → Contains (x ∷ xs) x
   contains_here x xs = (0, omega arith, refl)
 
-  contains_next : (x y : X) (xs : List X) → Contains xs y → Contains (x ∷ xs) y
+  pub contains_next : (x y : X) (xs : List X) → Contains xs y → Contains (x ∷ xs) y
   contains_next x y xs c = (suc c.0, omega (arith, c.1), c.2)
 
   -- what is found is in the list, and passes

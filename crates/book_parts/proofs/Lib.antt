@@ -7,6 +7,7 @@ mod Loads
 mod Lookups
 mod Marks
 mod NewParts
+mod NextImage
 mod NextKeys
 mod PinsInHand
 mod Repinned
@@ -41,3 +42,8 @@ pub mod RecycledCells
 pub mod RowPlaces
 pub mod SlotChanges
 pub mod StoredVersions
+pub mod OpenedLists
+pub mod OpenedStates
+pub mod OpenedRows
+pub mod OpenedCounts
+pub mod OpenedImage

@@ -1,12 +1,14 @@
 -- The parts of a new book.
-use Rattle.std.proofs.Common.{◌≡◌, ℕ, zero, suc, List, [], ◌∷◌, true, false, cond, All, length, count_by, sum_by, refl, sym, ap, ◌∙◌, arith}
+use Rattle.std.proofs.Common.{◌≡◌, ℕ, zero, suc, List, [], ◌∷◌, Bool, true, false, cond, All, length, count_by, sum_by, refl, sym, ap, ◌∙◌, arith}
 use Rattle.std.proofs.lemmas.List.Sums.{sum_by-cons}
 use Rattle.cell_table.specs.declared.phase.Phase.{Phase}
 use Rattle.cell_table.specs.declared.phase.Phase.TheVariants as phases
 use Rattle.cell_table.specs.Phases.{has_id, is_free, is_filling, is_live, is_retired, bytes_of, pins_of}
 use Rattle.cell_table.specs.Cells.{Table, cell_at, used, pins}
 use Rattle.adb_model.specs.Call.{Counts}
-use Rattle.adb_model.specs.State.{fresh}
+use Rattle.adb_model.specs.Lists.{among}
+use Rattle.adb_model.specs.State.{Row, fresh}
+use Rattle.adb_model.specs.Opened.{opened, opened_roots}
 use Rattle.book_parts.specs.Parts.{Shared, new_parts}
 use Rattle.book_parts.specs.Reflects.{Reflects}
 
@@ -74,3 +76,32 @@ reflects_new table id all free = record {
   next_id = refl;
   snap = refl;
 }
+
+-- and those that are opened from no image
+pub reflects_unopened : (table : Table Shared) (slot : ℕ) (more : List ℕ) → length table.cells ≡ 1048576 → AreFree table.cells
+    → Reflects (record (new_parts table 1) { roots = opened_roots slot [] more; cleaned = slot }) (opened table.limit slot [] more)
+reflects_unopened table slot more all free =
+    let new = reflects_new table 1 all free in
+    record {
+      marks = λ k s. refl;
+      placed = λ k s t cell offset e. absurd cc;
+      held = λ k s. refl;
+      expected = λ k s. refl;
+      rows = λ s. unflushed (among s (opened_roots slot [] more));
+      roots = refl;
+      cleaned = refl;
+      leases = refl;
+      cells = new.cells;
+      slots = new.slots;
+      counts = new.counts;
+      limit = refl;
+      next_id = refl;
+      snap = refl;
+    }
+  where
+    none : List Row
+    none = []
+
+    unflushed : (b : Bool) → none ≡ cond b none none
+    unflushed true = refl
+    unflushed false = refl

@@ -10,3 +10,4 @@ pub mod Shrinks
 pub mod Snaps
 pub mod Keys
 pub mod Reclaims
+pub mod Opening

@@ -10,6 +10,7 @@ mod flush_events;
 mod flushing;
 mod laws;
 mod leasing;
+mod opening;
 mod pinning;
 mod shrink_events;
 mod shrinking;
@@ -27,6 +28,7 @@ pub use laws::{
     stats_stand, step_stands, store_stands, sums_fit,
 };
 pub use leasing::{lease_stands, raise_stands};
+pub use opening::{opened_parts_reflect, opened_parts_stand};
 pub use pinning::{pins_stay, stored_load_stands, unpin_stands};
 pub use shrink_events::{recycle_stands, shrink_begin_stands, shrink_end_stands};
 pub use shrinking::{
