@@ -1,0 +1,9 @@
+mod Facts
+mod Edits
+mod Standing
+mod Indexed
+mod Keys
+mod Counted
+mod Rising
+mod Filled
+mod Openings
