@@ -1,6 +1,7 @@
-ghost use Rattle.std.specs.Prelude.{◌≡◌, ◌<◌, ◌≤◌, ℕ, List, [], length, map, Some, option_map, IfOk, IfSome};
+ghost use Rattle.std.specs.Prelude.{◌≡◌, ◌<◌, ◌≤◌, ℕ, List, [], length, map, Some, option_map, IfOk, IfErr, IfSome};
 ghost use Rattle.accounts_index.specs.Index.{crowded_after};
 ghost use Rattle.adb_model.specs.State.{State, fresh};
+ghost use Rattle.adb_model.specs.Opened.{opened};
 ghost use Rattle.adb_model.specs.Call as machine;
 ghost use Rattle.adb_model.specs.History.{state_after, IsPass};
 ghost use Rattle.adb_model.specs.Laws.{ShowLive};
@@ -12,9 +13,11 @@ ghost use Rattle.book_parts.specs.Pins.{HoldsPins};
 ghost use Rattle.book_parts.specs.Keys.{IsNextKey};
 ghost use Rattle.book_parts.specs.Shrinks.{IsOpenCopy};
 ghost use Rattle.book_parts.specs.Snaps.{IsOpenSnap};
-ghost use Rattle.vec_scan.specs.Shown.{shown};
+ghost use Rattle.book_parts.specs.Opening.{AreOpenable, AreFurther, sizes_of};
+ghost use Rattle.vec_scan.specs.Shown.{shown, stored};
 ghost use Rattle.pass_pins.specs.Pins.{without_one};
 ghost use Rattle.book.specs.Replies.{store_reply, root_reply, purge_reply, load_reply, unpin_reply, lease_reply, end_lease_reply, raise_reply, reclaim_reply, flush_reply, shrink_reply, shrink_end_reply, snap_reply};
+ghost use Rattle.open_plan.specs.Causes.{IsWhyNotRebuilt};
 ghost use Rattle.book.specs.Pinned.{IsThere, pins_after};
 
 use crate::flushing::{spent, why_not};
@@ -41,6 +44,7 @@ use book_parts::{
 };
 use cell_table::CellTable;
 use flush_plan::FlushJob;
+use open_plan::RebuildFault;
 use pass_pins::{MAX_PINS, PassPins};
 use shrink_plan::ShrinkJob;
 use slot_list::Place;
@@ -48,6 +52,7 @@ use std::alloc::{AllocError, Global};
 use std::marker::Model;
 use std::sync::Arc;
 use storage_map::StorageMap;
+use vec_scan::Sealed;
 use view_sets::RootSet;
 use write_cache::WriteCache;
 
@@ -110,6 +115,40 @@ impl Book {
             map: StorageMap::new(alloc),
             snap: None,
             next_id: first_id,
+            alloc,
+        })
+    }
+
+    /// A book of the accounts of these storages, as a snapshot at a slot has them. Its roots are the slots of the
+    /// storages, the further ones, and the snapshot's; it is cleaned up to the snapshot's slot.
+    ///
+    /// # Errors
+    /// `Full` and `NoCell` exactly where the budget or the cells don't suffice, at the first storage that meets it.
+    pub fn rebuild(
+        alloc: Global,
+        budget: u64,
+        slot: Slot,
+        storages: Vec<Sealed>,
+        more_roots: &[Slot],
+    ) -> Result<Book, RebuildFault>
+        requires storages { AreOpenable slot storages.items }
+        requires more { AreFurther slot storages.items more_roots.now }
+        ensures opened { IfOk result (λ book. Stands book (opened budget slot (map stored storages.items) more_roots.now) []) }
+        ensures refused { IfErr result (IsWhyNotRebuilt budget (sizes_of storages.items)) }
+    {
+        let next_id = storages.len() as u64 + 1;
+        let cells = CellTable::new(alloc, budget, MAX_STORAGES);
+        let opened = open_plan::open(alloc, slot, storages, more_roots, cells)?;
+        Ok(Book {
+            index: opened.index,
+            cache: WriteCache::new(alloc),
+            roots: opened.roots,
+            cleaned: slot,
+            leases: Vec::new(alloc),
+            cells: opened.cells,
+            map: opened.map,
+            snap: None,
+            next_id,
             alloc,
         })
     }

@@ -9,6 +9,8 @@ mod cleaning_tests;
 mod flushing;
 mod leasing;
 mod loading;
+#[cfg(test)]
+mod opening_tests;
 mod pinning;
 mod purging;
 mod refusals;
@@ -23,6 +25,7 @@ mod tests;
 
 pub use book::{Book, MAX_STORAGES};
 pub use loading::{Found, FoundAt};
+pub use open_plan::RebuildFault;
 pub use refusals::{
     FlushRefusal, LeaseRefusal, LoadRefusal, NotLeased, NotPinned, RaiseRefusal, RootRefusal,
     Rooted, ShrinkDone, ShrinkRefusal, SnapRefusal, StoreRefusal,
