@@ -1,5 +1,5 @@
 -- Small facts.
-use Rattle.std.proofs.Common.{◌≡◌, ◌⊎◌, ℕ, suc, List, ◌∷◌, Bool, true, false, ◌||◌, All, AllPairs, Option, Some, None, is_some, refl, sym, ap, inl, inr, arith}
+use Rattle.std.proofs.Common.{◌≡◌, ◌⊎◌, ℕ, suc, List, ◌∷◌, Bool, true, false, ◌||◌, All, AllPairs, Option, Some, None, refl, inl, inr, arith}
 use Rattle.std.specs.Option.{option_or}
 use Rattle.std.specs.Str.{bytes_eq}
 use Rattle.std.specs.Cmp.Lexicographic.{bytes_decides}
@@ -16,9 +16,6 @@ bytes_differ a b apart = by (bytes_eq a b) refl
     by : (t : Bool) → bytes_eq a b ≡ t → bytes_eq a b ≡ false
     by true is = absurd (apart (same_bytes a b is))
     by false is = is
-
-pub some_same : {X : Type 0} {x y : X} → Some x ≡ Some y → x ≡ y
-some_same e = cc
 
 pub or_either : (a b : Bool) → (a || b) ≡ true → (a ≡ true) ⊎ (b ≡ true)
 or_either true b e = inl refl

@@ -1,5 +1,5 @@
 -- Files among which a snapshot's were put hold the snapshot.
-use Rattle.std.proofs.Common.{◌≡◌, ℕ, ◌<◌, ◌≤◌, ◌^◌, Bool, true, false, cond, ◌||◌, ◌⊎◌, List, [], ◌∷◌, ◌++◌, length, map, take, get_or, Option, Some, None, is_some, Result, Ok, Err, All, AllPairs, refl, sym, ap, subst, ◌∙◌, inl, inr, arith}
+use Rattle.std.proofs.Common.{◌≡◌, ℕ, ◌≤◌, Bool, true, false, cond, ◌||◌, ◌⊎◌, List, [], ◌∷◌, ◌++◌, length, map, take, get_or, Option, Some, None, is_some, Result, Ok, Err, All, AllPairs, refl, sym, ap, subst, ◌∙◌, inl, inr, arith}
 use Rattle.std.specs.Prelude.{codes, IfSome, IsSomeAnd, OnOk, sum_by}
 use Rattle.std.specs.List.{AllByRecursion}
 use Rattle.std.specs.Option.{option_or}
@@ -12,10 +12,10 @@ use Rattle.adb_model.specs.Storages.{bytes_of}
 use Rattle.dir_io.specs.Files.{Files, file_of, has_prefix, is_among}
 use Rattle.field_codec.specs.declared.fields.FieldStorage.{FieldStorage}
 use Rattle.field_codec.specs.Forms.{HoldsForm, is_version, known_paths, paths_of}
-use Rattle.field_codec.specs.Manifest.{Content, IsManifest}
+use Rattle.field_codec.specs.Manifest.{IsManifest}
 use Rattle.field_codec.specs.Paths.{manifest_path, prefix_of, status_path, storage_path, version_path}
 use Rattle.field_codec.specs.Written.{written_manifest}
-use Rattle.vec_scan.specs.Image.{HasImage, Image, IsImage, Placed}
+use Rattle.vec_scan.specs.Image.{Image, IsImage}
 use Rattle.vec_scan.specs.Seal.{rows_in}
 use Rattle.vec_scan.specs.Written.{IsWritableRow, written_image, written_rows}
 use Rattle.snap_write.specs.Changes.{HasNone, Puts, StillTold}

@@ -1,10 +1,11 @@
 -- The rows of an image, written anew.
-use Rattle.std.proofs.Common.{◌≡◌, ℕ, zero, suc, ◌+◌, ◌*◌, ◌/◌, ◌%◌, ◌<◌, List, [], ◌∷◌, ◌++◌, append_assoc, append-nil, length, map, take, get_or, refl, sym, ap, ◌∙◌, All, arith}
+use Rattle.std.proofs.Common.{◌≡◌, ℕ, ◌+◌, ◌*◌, ◌/◌, ◌%◌, List, [], ◌∷◌, ◌++◌, append_assoc, append-nil, length, map, take, Some, option_map, refl, sym, ap, ◌∙◌, All, arith}
+use Rattle.std.specs.List.{AllByRecursion, slice_get}
 use Rattle.std.proofs.lemmas.List.Sums.{sum_by-cons}
-use Rattle.std.specs.List.{AllByRecursion, flat_map}
-use Rattle.std.proofs.lemmas.List.{map-append}
+use Rattle.std.proofs.lemmas.List.{take_more}
+use Rattle.std.proofs.lemmas.Option.{get_or_from_slice_get, slice_get-map, slice_get_within}
 use Rattle.std.proofs.lemmas.List.Elements.{All-cons, All-nil}
-use Rattle.account_layout.specs.Written.{IsWritable, written_record}
+use Rattle.account_layout.specs.Written.{written_record}
 use Rattle.adb_model.specs.Account.{size}
 use Rattle.adb_model.specs.State.{Row}
 use Rattle.adb_model.specs.Storages.{bytes_of}
@@ -27,16 +28,19 @@ writable-append [] row all one = (one, tt)
 writable-append (x ∷ xs) row all one = (all.0, writable-append xs row all.1 one)
 
 -- one row more
-module _ (done rows : List Placed) (p : Placed) (more : rows ≡ done ++ p ∷ []) where
-  rows_more : rows_of rows ≡ rows_of done ++ p.row ∷ []
-  rows_more = ap rows_of more ∙ map-append (λ (q : Placed). q.row) done (p ∷ [])
+module _ (rows : List Placed) (n : ℕ) (p : Placed) (is : slice_get rows n ≡ Some p) where
+  rows_more : take (n + 1) (rows_of rows) ≡ take n (rows_of rows) ++ p.row ∷ []
+  rows_more =
+      let there : slice_get (rows_of rows) n ≡ Some p.row = slice_get-map (λ (q : Placed). q.row) rows n ∙ ap (option_map (λ (q : Placed). q.row)) is in
+      take_more (rows_of rows) n p.row (slice_get_within (rows_of rows) n p.row there)
+      ∙ ap (λ (row : Row). take n (rows_of rows) ++ row ∷ []) (get_or_from_slice_get (rows_of rows) n p.row p.row there)
 
-  pub bytes_more : (bytes new : List ℕ) → bytes ≡ written_image (rows_of done) → new ≡ bytes ++ written_record p.row.key p.row.account → new ≡ written_image (rows_of rows)
+  pub bytes_more : (bytes new : List ℕ) → bytes ≡ written_image (take n (rows_of rows)) → new ≡ bytes ++ written_record p.row.key p.row.account → new ≡ written_image (take (n + 1) (rows_of rows))
   bytes_more bytes new before added =
-      added ∙ ap (λ (l : List ℕ). l ++ written_record p.row.key p.row.account) before ∙ sym (ap written_image rows_more ∙ written-append (rows_of done) p.row)
+      added ∙ ap (λ (l : List ℕ). l ++ written_record p.row.key p.row.account) before ∙ sym (ap written_image rows_more ∙ written-append (take n (rows_of rows)) p.row)
 
-  pub writable_more : AllByRecursion IsWritableRow (rows_of done) → IsWritableRow p.row → AllByRecursion IsWritableRow (rows_of rows)
-  writable_more all one = rw rows_more (writable-append (rows_of done) p.row all one)
+  pub writable_more : AllByRecursion IsWritableRow (take n (rows_of rows)) → IsWritableRow p.row → AllByRecursion IsWritableRow (take (n + 1) (rows_of rows))
+  writable_more all one = rw rows_more (writable-append (take n (rows_of rows)) p.row all one)
 
 -- the rows of what was written are those that were
 pub rows_back : (start : ℕ) (rows : List Row) → rows_of (written_rows start rows) ≡ rows

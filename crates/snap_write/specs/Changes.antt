@@ -1,5 +1,5 @@
 -- What the writing of a snapshot does to the files of a directory.
-use Rattle.std.specs.Prelude.{◌≡◌, ℕ, Bool, true, false, List, Option, Some, None, is_some, IfSome, IsSomeAnd, OnOk, Result, Ok, Err, ⊤}
+use Rattle.std.specs.Prelude.{◌≡◌, ℕ, true, false, List, Option, Some, None, is_some, IfSome, IsSomeAnd, OnOk, Result, Ok, Err, ⊤}
 use Rattle.std.specs.Option.{option_or}
 use Rattle.dir_io.specs.Files.{Files, file_of, has_prefix}
 use Rattle.snap_write.specs.declared.fault.SnapFault.{SnapFault}

@@ -1,5 +1,5 @@
 -- Why a snapshot was not written.
-use Rattle.std.specs.Prelude.{◌≡◌, ℕ, ◌≤◌, Bool, true, false, List, codes, Result, Ok, Err}
+use Rattle.std.specs.Prelude.{◌≡◌, ℕ, ◌≤◌, Bool, true, false, List, codes, Result, Err}
 use Rattle.stream_io.specs.Stream.{Rose}
 use Rattle.dir_io.specs.declared.fault.DirError.{DirError}
 use Rattle.dir_io.specs.declared.fault.DirError.TheVariants as errors

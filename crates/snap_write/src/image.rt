@@ -18,11 +18,9 @@ pub(crate) fn write_image(alloc: Global, image: &Sealed) -> Result<Vec<u8>, Allo
     ensures writable { OnOk result (AllByRecursion IsWritableRow (rows_in image.now)) }
 {
     let mut bytes = Vec::with_capacity(alloc, image.bytes().len())?;
-    let mut at = 0;
-    while let Some(offset) = image.next_row(at) {
-        let record = image.record_at(offset);
+    for offset in image.offsets() {
+        let record = image.record_at(*offset);
         push_record(&mut bytes, &record.key, &record.account(alloc)?)?;
-        at = offset + 1;
     }
     written_images_are_read();
     Ok(bytes)

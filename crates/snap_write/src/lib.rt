@@ -14,9 +14,11 @@
 mod fault;
 mod file;
 mod image;
+mod laws;
 mod snapshot;
 #[cfg(test)]
 mod tests;
 
 pub use fault::SnapFault;
+pub use laws::snapshots_stand_apart;
 pub use snapshot::write_snapshot;

@@ -1,9 +1,9 @@
 // Writing a snapshot.
-ghost use Rattle.std.specs.Prelude.{◌≡◌, ◌≤◌, ◌%◌, [], ◌∷◌, true, map, All, IfOk, OnOk};
+ghost use Rattle.std.specs.Prelude.{◌≡◌, ◌≤◌, ◌%◌, [], ◌∷◌, true, map, All, IfOk, IfSome, OnOk};
 ghost use Rattle.std.specs.List.Sorted.{IsStrictlyIncreasing};
 ghost use Rattle.field_codec.specs.Manifest as manifest;
 ghost use Rattle.field_codec.specs.Paths as paths;
-ghost use Rattle.snap_write.specs.Changes.{AnswersNew, IsWriting, LeavesOutside, Puts, StandsLast, StillTold};
+ghost use Rattle.snap_write.specs.Changes.{AnswersNew, HasSome, IsWriting, LeavesOutside, Puts, StandsLast, StillTold};
 ghost use Rattle.snap_write.specs.Faults.{HasSnapCause, is_exists};
 ghost use Rattle.snap_write.specs.Snapshot.{HoldsSnapshot};
 ghost use Rattle.vec_scan.specs.Shown.{images_of, shown};
@@ -47,6 +47,8 @@ pub fn write_snapshot<D: Dir>(
         (written.slots_without_rows (map shown (images_of storages.now))))) }
     ensures exact { AnswersNew (paths.prefix_of name.now) (D.files dir.old) result }
     ensures exists { is_exists result ≡ true → D.files dir.new ≡ D.files dir.old }
+    // So they are whatever it answers, where a file is under the name.
+    ensures there { IfSome (D.files dir.old) (λ told. HasSome (paths.prefix_of name.now) told → D.files dir.new ≡ D.files dir.old) }
     ensures others { LeavesOutside (paths.prefix_of name.now) (D.files dir.old) (D.files dir.new) }
     // Whatever it answers: a version that wasn't there stands only where all the other files do.
     ensures last { StandsLast (paths.version_path name.now) (written.body_of name.now slot (images_of storages.now))

@@ -1,4 +1,4 @@
-use Rattle.std.proofs.Common.{◌≡◌, ◌%◌, ℕ, List, [], ◌∷◌, map, All, Result, Ok, Err, ap, subst, sym, ◌∙◌}
+use Rattle.std.proofs.Common.{◌≡◌, ◌%◌, ℕ, List, [], ◌∷◌, map, All, ap, subst, sym, ◌∙◌}
 use Rattle.std.specs.Prelude.{OnOk}
 use Rattle.std.specs.List.Sorted.{IsStrictlyIncreasing}
 use Rattle.std.proofs.lemmas.Result.{err_from_is_err_and}
@@ -7,7 +7,7 @@ use Rattle.field_codec.specs.declared.fields.FieldStorage.{FieldStorage}
 use Rattle.field_codec.specs.Manifest.{Content}
 use Rattle.snap_write.specs.Changes.{IsWriting}
 use Rattle.vec_scan.specs.Shown.{images_of}
-use Rattle.snap_write.specs.Written.{IsWrittenManifest, body_of, content_of, manifest_file, storage_file, storage_of}
+use Rattle.snap_write.specs.Written.{IsWrittenManifest, body_of, content_of, manifest_file, storage_file}
 use Rattle.snap_write.proofs.Fronts.{slots_same}
 use Rattle.snap_write.proofs.Laid.{all_eights}
 use Rattle.snap_write.proofs.Lookups.{manifest_apart}

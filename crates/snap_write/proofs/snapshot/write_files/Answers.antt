@@ -1,4 +1,4 @@
-use Rattle.std.proofs.Common.{◌++◌, List, [], ◌∷◌, Option, Ok, Err, subst, sym}
+use Rattle.std.proofs.Common.{[], ◌∷◌, Option, Ok, subst, sym}
 use Rattle.std.proofs.lemmas.Result.{err_from_is_err_and}
 use Rattle.dir_io.specs.Files.{Files}
 use Rattle.field_codec.specs.Paths.{version_path}

@@ -1,4 +1,4 @@
-use Rattle.std.proofs.Common.{◌≡◌, ℕ, List, subst, sym, ap, ◌∙◌, rules}
+use Rattle.std.proofs.Common.{◌≡◌, ℕ, List, subst, rules}
 use Rattle.std.specs.Prelude.{OnOk}
 use Rattle.dir_io.specs.Files.{IsFile, LeavesOthers}
 use Rattle.field_codec.specs.Manifest.{content_of}

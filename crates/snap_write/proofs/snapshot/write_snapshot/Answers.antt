@@ -1,4 +1,4 @@
-use Rattle.std.proofs.Common.{List, Option, subst}
+use Rattle.std.proofs.Common.{Option, subst}
 use Rattle.std.specs.Prelude.{OnOk}
 use Rattle.dir_io.specs.Files.{Files}
 use Rattle.field_codec.specs.Paths.{prefix_of}

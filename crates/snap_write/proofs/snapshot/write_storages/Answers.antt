@@ -7,7 +7,7 @@ use Rattle.vec_scan.specs.Image.{Image}
 use Rattle.snap_write.specs.Changes.{IsWriting}
 use Rattle.vec_scan.specs.Shown.{images_of}
 use Rattle.snap_write.specs.Written.{IsFit, storage_file, storage_of}
-use Rattle.snap_write.proofs.Fronts.{apart_next, fields_next, fit_next, front, front_next, front_within, next_within}
+use Rattle.snap_write.proofs.Fronts.{apart_next, fields_next, fit_next, front, front_next, next_within}
 use Rattle.snap_write.proofs.Steps.{answers, breaks, follows, stops}
 use Rattle.snap_write.proofs.snapshot.write_storages.Goals as goal
 
