@@ -1,0 +1,9 @@
+pub mod FirstFull
+pub mod Held
+pub mod Laid
+pub mod Openable
+pub mod ReadParts
+pub mod Rows
+pub mod Sealing
+pub mod Told
+pub mod Whole
