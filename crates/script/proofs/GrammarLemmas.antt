@@ -2,7 +2,6 @@
 use Rattle.std.proofs.Common.{◌≡◌, ℕ, ◌+◌, ◌≤◌, Bool, true, false, cond, leb, List, [], ◌∷◌, length, Option, Some, None, Result, Ok, Err, refl, sym, ap, ap₂, subst, ◌∙◌, inl, inr, arith}
 use Rattle.std.specs.Prelude.{codes, filter, map, not, replicate, ◌&&◌, option_map, option_and_then}
 use Rattle.std.specs.Str.{bytes_eq}
-use Rattle.std.specs.Str.Lines.{lines}
 use Rattle.std.proofs.lemmas.Bool.{and_from, and_parts, cases_Bool, cond-true, cond-false, le-leb, leb-true}
 use Rattle.std.proofs.lemmas.Slice.Eq.{bytes_eq-Decides}
 use Rattle.adb_model.specs.Account.{Account, account_of}
@@ -10,18 +9,17 @@ use Rattle.adb_model.specs.View.{View}
 use Rattle.adb_model.specs.Call.{Call, Store, Root, Purge, Load, Unpin, Lease, EndLease, FlushBegin, FlushEnd, FlushAbort, Raise, Reclaim, ShrinkBegin, ShrinkEnd, ShrinkAbort, SnapBegin, SnapEnd, Recycle, Stats}
 use Rattle.hex.proofs.OnLiterals.{hex_on_literals}
 use Rattle.text_fields.specs.Keys.{key_of}
+use Rattle.text_fields.specs.Names.{name_of}
 use Rattle.text_fields.specs.Numbers.{number_of}
 use Rattle.script.specs.declared.fault.Kind.{Kind}
 use Rattle.script.specs.declared.fault.Kind.TheVariants as kinds
 use Rattle.script.specs.declared.fault.WordFault.{WordFault}
 use Rattle.script.specs.declared.fault.LineFault.{LineFault}
-use Rattle.script.specs.declared.line.Leading.TheVariants as leadings
 use Rattle.script.specs.Arguments.{view_of, max_root_of, flag_of, data_of, after_of}
 use Rattle.script.specs.Data.{IsData}
-use Rattle.script.specs.Grammar.{filled, store_defaults, flush_defaults, IsStore, IsOfNumber, IsOfView, IsUpTo, IsFlush, IsOfMaxRoot, IsAfter, IsReclaim, IsOrder, IsLine, AreLines, AreSaid, IsScript}
-use Rattle.script.specs.Reader.{◌>>=◌, good, argument, optional, fitting, ended, if_lane, lane_of, data_argument, store_of, only_number, number_order, if_up_to, count_argument, flush_of, reclaim_of, only_max_root, view_and_key_of, alone, numbered_of, copying_of, order_of, is_header, first_fault, lane_argument, line_of, said_by, and_then, lines_from, with_budget, unskipped, leading_of, headed, said_from, script_of}
-use Rattle.script.specs.Laws.{ReadsTheGrammar}
-use Rattle.script.specs.Said.{Order, Plain, Get, Flush, Clean, Shrink, Line, Said}
+use Rattle.script.specs.Grammar.{filled, store_defaults, flush_defaults, IsStore, IsOfNumber, IsOfView, IsUpTo, IsFlush, IsOfMaxRoot, IsAfter, IsReclaim, IsSnap, IsOrder, IsLine, AreLines}
+use Rattle.script.specs.Reader.{◌>>=◌, good, argument, optional, fitting, ended, if_lane, lane_of, data_argument, store_of, only_number, number_order, if_up_to, count_argument, flush_of, reclaim_of, snap_of, only_max_root, view_and_key_of, alone, numbered_of, copying_of, order_of, first_fault, lane_argument, line_of, said_by, and_then, lines_from}
+use Rattle.script.specs.Said.{Order, Plain, Get, Flush, Clean, Shrink, Snap, Line}
 use Rattle.script.specs.Text.{flag_text}
 use Rattle.script.specs.Views.{IsView}
 use Rattle.script.specs.Words.{words, is_skipped}
@@ -31,10 +29,10 @@ use Rattle.script.proofs.ViewGrammar.{max_root_read, max_root_again, view_read, 
 
 -- ---- the reader's steps
 
-value_same : {A : Type 0} (x y : A) (r : Result A WordFault) → r ≡ Ok x → r ≡ Ok y → x ≡ y
+pub value_same : {A E : Type 0} (x y : A) (r : Result A E) → r ≡ Ok x → r ≡ Ok y → x ≡ y
 value_same x y r e f = cc
 
-bind_ok : {A B : Type 0} (r : Result A WordFault) (f : A → Result B WordFault) (y : B) → (r >>= f) ≡ Ok y → (x : A) × (r ≡ Ok x) × (f x ≡ Ok y)
+pub bind_ok : {A B E : Type 0} (r : Result A E) (f : A → Result B E) (y : B) → (r >>= f) ≡ Ok y → (x : A) × (r ≡ Ok x) × (f x ≡ Ok y)
 bind_ok (Ok x) f y e = (x, refl, e)
 bind_ok (Err d) f y e = absurd cc
 
@@ -52,7 +50,7 @@ argument_ok read kind word (w ∷ ws) x e = let p = good_ok word kind ws (read w
 -- ---- words
 
 -- the first word, what it was read as, the words after it, and the next step
-step : {A B : Type 0} (read : List ℕ → Option A) (kind : Kind) (word : ℕ) (ws : List (List ℕ)) (f : A × List (List ℕ) → Result B WordFault) (y : B) → (argument read kind word ws >>= f) ≡ Ok y
+pub step : {A B : Type 0} (read : List ℕ → Option A) (kind : Kind) (word : ℕ) (ws : List (List ℕ)) (f : A × List (List ℕ) → Result B WordFault) (y : B) → (argument read kind word ws >>= f) ≡ Ok y
     → (w : List ℕ) × (x : A) × (rest : List (List ℕ)) × (ws ≡ w ∷ rest) × (read w ≡ Some x) × (f (x, rest) ≡ Ok y)
 step read kind word ws f y e =
     let b = bind_ok (argument read kind word ws) f y e in
@@ -60,12 +58,12 @@ step read kind word ws f y e =
     (a.0, b.0.0, b.0.1, a.1, a.2, b.2)
 
 -- no word was left
-at_end : {B : Type 0} (word : ℕ) (ws : List (List ℕ)) (f : Unit {0} → Result B WordFault) (y : B) → (ended word ws >>= f) ≡ Ok y → (ws ≡ []) × (f tt ≡ Ok y)
+pub at_end : {B : Type 0} (word : ℕ) (ws : List (List ℕ)) (f : Unit {0} → Result B WordFault) (y : B) → (ended word ws >>= f) ≡ Ok y → (ws ≡ []) × (f tt ≡ Ok y)
 unfolding ended
 at_end word [] f y e = (refl, e)
 at_end word (w ∷ ws) f y e = absurd cc
 
-is_text : (w c : List ℕ) → bytes_eq w c ≡ true → w ≡ c
+pub is_text : (w c : List ℕ) → bytes_eq w c ≡ true → w ≡ c
 is_text w c e = (bytes_eq-Decides w c).0 e
 
 -- ---- words that may be left out
@@ -151,11 +149,6 @@ no_key : key_of (codes "-") ≡ None
 unfolding key_of hex_on_literals
 no_key = refl
 
--- the word of a header is no number
-no_number : number_of (codes "budget") ≡ None
-unfolding number_of
-no_number = refl
-
 no_epoch : number_of (codes "0") ≡ Some 0
 unfolding number_of
 no_epoch = refl
@@ -170,7 +163,7 @@ no_data = record { form = inl (refl, refl); most = omega arith }
 -- ---- orders
 
 -- a command and a number, at any place
-number_read : (command : List ℕ) (word : ℕ) (w : List ℕ) (ws : List (List ℕ)) (n : ℕ) → w ≡ command → only_number word ws ≡ Ok n → IsOfNumber command (w ∷ ws) n
+pub number_read : (command : List ℕ) (word : ℕ) (w : List ℕ) (ws : List (List ℕ)) (n : ℕ) → w ≡ command → only_number word ws ≡ Ok n → IsOfNumber command (w ∷ ws) n
 unfolding only_number
 number_read command word w ws n is e =
     let number = step _ _ _ ws _ n e in
@@ -182,7 +175,7 @@ number_read command word w ws n is e =
       number_is = number.4 ∙ ap (λ (m : ℕ). Some m) same;
     }
 
-number_again : (word : ℕ) (w : List ℕ) (n : ℕ) → number_of w ≡ Some n → only_number word (w ∷ []) ≡ Ok n
+pub number_again : (word : ℕ) (w : List ℕ) (n : ℕ) → number_of w ≡ Some n → only_number word (w ∷ []) ≡ Ok n
 unfolding only_number argument ended
 number_again word w n e = rw e refl
 
@@ -310,6 +303,22 @@ reclaim_again : (ws : List (List ℕ)) (after : Option (List ℕ)) (most : ℕ) 
 unfolding reclaim_of argument ended
 reclaim_again ws after most h = rw (after_again h.after_word after h.after_is, count_again 256 h.most_word most h.most_is []) refl
 
+snap_read : (w : List ℕ) (ws : List (List ℕ)) (o : Order) → w ≡ codes "snap" → snap_of ws ≡ Ok o → IsOrder (w ∷ ws) o
+unfolding snap_of
+snap_read w ws o is e =
+    let slot = step _ _ _ ws _ o e in
+    let name = step name_of kinds.Name 4 slot.2 _ o slot.5 in
+    let done = at_end _ name.2 _ o name.5 in
+    let made : Order = Snap slot.1 name.1 in
+    let same = value_same made o (Ok made) refl done.1 in
+    let words : w ∷ ws ≡ codes "snap" ∷ slot.0 ∷ name.0 ∷ [] =
+    ap₂ (λ (v : List ℕ) (r : List (List ℕ)). v ∷ r) is (slot.3 ∙ ap (λ (l : List (List ℕ)). slot.0 ∷ l) (name.3 ∙ ap (λ (l : List (List ℕ)). name.0 ∷ l) done.0)) in
+    subst (λ (x : Order). IsOrder (w ∷ ws) x) same (record { slot_word = slot.0; name_word = name.0; words = words; slot_is = slot.4; name_is = name.4 })
+
+snap_again : (ws : List (List ℕ)) (slot : ℕ) (name : List ℕ) (h : IsSnap ws slot name) → snap_of (h.slot_word ∷ h.name_word ∷ []) ≡ Ok (Snap slot name)
+unfolding snap_of argument ended
+snap_again ws slot name h = rw (h.slot_is, h.name_is) refl
+
 view_and_key_read : (ws : List (List ℕ)) (x : View × List ℕ) → view_and_key_of ws ≡ Ok x → (v k : List ℕ) × (ws ≡ v ∷ k ∷ []) × IsView v x.0 × (key_of k ≡ Some x.1)
 unfolding view_and_key_of
 view_and_key_read ws x e =
@@ -416,9 +425,10 @@ copying_read w ws o e0 =
     pick w (codes "shrink-end") _ _ _ e1 (number_ordered (codes "shrink-end") (λ n. Plain (ShrinkEnd n)) w ws o (λ n h. h)) (λ e2.
     pick w (codes "shrink-abort") _ _ _ e2 (number_ordered (codes "shrink-abort") (λ n. Plain (ShrinkAbort n)) w ws o (λ n h. h)) (λ e3.
     pick w (codes "shrink") _ _ _ e3 (number_ordered (codes "shrink") (λ n. Shrink n) w ws o (λ n h. h)) (λ e4.
-    pick w (codes "snap-begin") _ _ _ e4 (number_ordered (codes "snap-begin") (λ n. Plain (SnapBegin n)) w ws o (λ n h. h)) (λ e5.
-    pick w (codes "snap-end") _ _ _ e5 (number_ordered (codes "snap-end") (λ n. Plain (SnapEnd n)) w ws o (λ n h. h)) (λ e6.
-    absurd (cc e6)))))))
+    pick w (codes "snap") _ _ _ e4 (snap_read w ws o) (λ e5.
+    pick w (codes "snap-begin") _ _ _ e5 (number_ordered (codes "snap-begin") (λ n. Plain (SnapBegin n)) w ws o (λ n h. h)) (λ e6.
+    pick w (codes "snap-end") _ _ _ e6 (number_ordered (codes "snap-end") (λ n. Plain (SnapEnd n)) w ws o (λ n h. h)) (λ e7.
+    absurd (cc e7))))))))
 
 numbered_read : (w : List ℕ) (ws : List (List ℕ)) (o : Order) → numbered_of w ws ≡ Ok o → IsOrder (w ∷ ws) o
 unfolding numbered_of
@@ -473,6 +483,7 @@ order_again ws (Get view key) h = ap order_of h.words ∙ rw (view_order_again (
 order_again ws (Flush slot workers) h = ap order_of h.words ∙ flush_again ws slot workers h
 order_again ws (Clean upto) h = ap order_of h.words ∙ rw (number_again 3 h.number_word upto h.number_is) refl
 order_again ws (Shrink slot) h = ap order_of h.words ∙ rw (number_again 3 h.number_word slot h.number_is) refl
+order_again ws (Snap slot name) h = ap order_of h.words ∙ snap_again ws slot name h
 
 -- ---- lines
 
@@ -516,7 +527,7 @@ line_again ws line h =
 
 -- ---- scripts
 
-abbrev counts : List (List ℕ) → Bool
+abbrev pub counts : List (List ℕ) → Bool
 counts ws = not (is_skipped ws)
 
 -- what the reader gives of lines as words
@@ -568,103 +579,8 @@ lines_again number [] (line ∷ said) h = absurd h
 lines_again number (ws ∷ rest) said h = again_by number ws rest said (is_skipped ws) (λ more k. lines_again (number + 1) rest more k) h
 
 -- what the lines of a lane say, by their words
-lines_by_words : (number : ℕ) (ls : List (List ℕ)) (said : List Line) → lines_from number ls ≡ Ok said → AreLines (filter counts (map words ls)) said
+pub lines_by_words : (number : ℕ) (ls : List (List ℕ)) (said : List Line) → lines_from number ls ≡ Ok said → AreLines (filter counts (map words ls)) said
 lines_by_words number ls said e = lines_read number (map words ls) said (sym (by_words number ls) ∙ e)
 
-lines_by_words_again : (number : ℕ) (ls : List (List ℕ)) (said : List Line) → AreLines (filter counts (map words ls)) said → lines_from number ls ≡ Ok said
+pub lines_by_words_again : (number : ℕ) (ls : List (List ℕ)) (said : List Line) → AreLines (filter counts (map words ls)) said → lines_from number ls ≡ Ok said
 lines_by_words_again number ls said h = by_words number ls ∙ lines_again number (map words ls) said h
-
--- ---- headers
-
-with_budget_ok : (budget : Option ℕ) (r : Result (List Line) LineFault) (said : Said) → with_budget budget r ≡ Ok said → (r ≡ Ok said.lines) × (budget ≡ said.budget)
-with_budget_ok budget (Ok lines) said e =
-    let made : Said = record { budget = budget; lines = lines } in
-    let same : made ≡ said = cc e in
-    (ap (λ (s : Said). Ok s.lines) same, ap (λ (s : Said). s.budget) same)
-with_budget_ok budget (Err f) said e = absurd cc
-
--- a header's words, after which lines stand
-header_read : (number : ℕ) (w : List ℕ) (ws : List (List ℕ)) (others : List (List (List ℕ))) (r : Result ℕ WordFault) (more : Result Said LineFault) (rest whole : Result (List Line) LineFault) (said : Said)
-    → ((n : ℕ) → r ≡ Ok n → IsOfNumber (codes "budget") (w ∷ ws) n) → ((lines : List Line) → rest ≡ Ok lines → AreLines others lines)
-    → headed number (r >>= λ budget. Ok (leadings.Header budget)) more rest whole ≡ Ok said
-    → AreSaid ((w ∷ ws) ∷ others) said.budget said.lines
-header_read number w ws others (Ok n) more rest whole said holds lines e =
-    let p = with_budget_ok (Some n) rest said e in
-    subst (λ (b : Option ℕ). AreSaid ((w ∷ ws) ∷ others) b said.lines) p.1 (holds n refl, lines said.lines p.0)
-header_read number w ws others (Err f) more rest whole said holds lines e = absurd cc
-
--- a line that counts, which is a header or a lane's
-unskipped_read : (number : ℕ) (w : List ℕ) (ws : List (List ℕ)) (others : List (List (List ℕ))) (more : Result Said LineFault) (rest whole : Result (List Line) LineFault) (said : Said) (t : Bool) → is_header w ≡ t
-    → ((lines : List Line) → rest ≡ Ok lines → AreLines others lines) → ((lines : List Line) → whole ≡ Ok lines → AreLines ((w ∷ ws) ∷ others) lines)
-    → headed number (cond t (only_number 2 ws >>= λ budget. Ok (leadings.Header budget)) (Ok leadings.Lane)) more rest whole ≡ Ok said
-    → AreSaid ((w ∷ ws) ∷ others) said.budget said.lines
-unskipped_read number w ws others more rest whole said true is lines all e =
-    header_read number w ws others (only_number 2 ws) more rest whole said (λ n f. number_read (codes "budget") 2 w ws n (is_text w (codes "budget") is) f) lines e
-unskipped_read number w ws others more rest whole said false is lines all e =
-    let p = with_budget_ok None whole said e in
-    subst (λ (b : Option ℕ). AreSaid ((w ∷ ws) ∷ others) b said.lines) p.1 (all said.lines p.0)
-
-leading_read : (number : ℕ) (ws : List (List ℕ)) (others : List (List (List ℕ))) (more : Result Said LineFault) (rest whole : Result (List Line) LineFault) (said : Said) (t : Bool) → is_skipped ws ≡ t
-    → (more ≡ Ok said → AreSaid others said.budget said.lines)
-    → ((lines : List Line) → rest ≡ Ok lines → AreLines others lines) → ((lines : List Line) → whole ≡ Ok lines → AreLines (cond (not t) (ws ∷ others) others) lines)
-    → headed number (cond t (Ok leadings.Skipped) (unskipped ws)) more rest whole ≡ Ok said
-    → AreSaid (cond (not t) (ws ∷ others) others) said.budget said.lines
-leading_read number ws others more rest whole said true is past lines all e = past e
-leading_read number [] others more rest whole said false is past lines all e = absurd cc
-leading_read number (w ∷ ws) others more rest whole said false is past lines all e = unskipped_read number w ws others more rest whole said (is_header w) refl lines all e
-
-said_read : (number : ℕ) (ls : List (List ℕ)) (said : Said) → said_from number ls ≡ Ok said → AreSaid (filter counts (map words ls)) said.budget said.lines
-unfolding leading_of
-said_read number [] said e =
-    let empty : Said = record { budget = None; lines = [] } in
-    let same : empty ≡ said = cc e in
-    subst (λ (s : Said). AreSaid [] s.budget s.lines) same tt
-said_read number (l ∷ ls) said e =
-    leading_read number (words l) (filter counts (map words ls)) (said_from (number + 1) ls) (lines_from (number + 1) ls) (lines_from number (l ∷ ls)) said (is_skipped (words l)) refl
-    (λ h. said_read (number + 1) ls said h) (λ said h. lines_by_words (number + 1) ls said h) (λ said h. lines_by_words number (l ∷ ls) said h) e
-
--- no number is the word of a header
-no_header : (w : List ℕ) (n : ℕ) → number_of w ≡ Some n → is_header w ≡ false
-no_header w n e = elim (cases_Bool (is_header w)) [
-  | inl t ↦ absurd (cc (e, ap number_of (is_text w (codes "budget") t), no_number))
-  | inr t ↦ t
-]
-
-where_header : (number : ℕ) (w : List ℕ) (ws : List (List ℕ)) (budget : ℕ) → IsOfNumber (codes "budget") (w ∷ ws) budget → unskipped (w ∷ ws) ≡ Ok (leadings.Header budget)
-where_header number w ws budget h =
-    let again = number_again 2 h.number_word budget h.number_is in
-    ap unskipped h.words ∙ rw again refl
-
-leading_again : (number : ℕ) (ws : List (List ℕ)) (others : List (List (List ℕ))) (more : Result Said LineFault) (rest whole : Result (List Line) LineFault) (budget : Option ℕ) (lines : List Line) (t : Bool)
-    → (AreSaid others budget lines → more ≡ Ok (record { budget = budget; lines = lines }))
-    → (AreLines others lines → rest ≡ Ok lines) → (AreLines (cond (not t) (ws ∷ others) others) lines → whole ≡ Ok lines)
-    → AreSaid (cond (not t) (ws ∷ others) others) budget lines
-    → headed number (cond t (Ok leadings.Skipped) (unskipped ws)) more rest whole ≡ Ok (record { budget = budget; lines = lines })
-leading_again number ws others more rest whole budget lines true past one all h = past h
-leading_again number [] others more rest whole (Some budget) lines false past one all h = absurd (cc h.0.words)
-leading_again number (w ∷ ws) others more rest whole (Some budget) lines false past one all h =
-    rw (where_header number w ws budget h.0, one h.1) refl
-leading_again number ws others more rest whole None [] false past one all h = absurd h
-leading_again number ws others more rest whole None (line ∷ lines) false past one all h =
-    let lane : unskipped ws ≡ Ok leadings.Lane = ap unskipped h.0.words ∙ rw (no_header h.0.lane_word line.lane h.0.lane_is) refl in
-    rw (lane, all h) refl
-
-said_again : (number : ℕ) (ls : List (List ℕ)) (budget : Option ℕ) (said : List Line) → AreSaid (filter counts (map words ls)) budget said → said_from number ls ≡ Ok (record { budget = budget; lines = said })
-unfolding leading_of
-said_again number [] None [] h = refl
-said_again number [] None (line ∷ said) h = absurd h
-said_again number [] (Some budget) said h = absurd h
-said_again number (l ∷ ls) budget said h =
-    leading_again number (words l) (filter counts (map words ls)) (said_from (number + 1) ls) (lines_from (number + 1) ls) (lines_from number (l ∷ ls)) budget said (is_skipped (words l))
-    (λ k. said_again (number + 1) ls budget said k) (λ k. lines_by_words_again (number + 1) ls said k) (λ k. lines_by_words_again number (l ∷ ls) said k) h
-
-pub script_read : (bytes : List ℕ) (said : Said) → script_of bytes ≡ Ok said → IsScript bytes said
-unfolding script_of
-script_read bytes said e = said_read 1 (lines bytes) said e
-
-pub script_again : (bytes : List ℕ) (said : Said) → IsScript bytes said → script_of bytes ≡ Ok said
-unfolding script_of
-script_again bytes said h = said_again 1 (lines bytes) said.budget said.lines h
-
-pub reads : ReadsTheGrammar
-reads bytes said = (script_read bytes said, script_again bytes said)

@@ -8,3 +8,4 @@ pub mod ViewGrammar
 pub mod DataGrammar
 pub mod EqualBytes
 pub mod GrammarLemmas
+pub mod ScriptLemmas

@@ -5,9 +5,10 @@ use Rattle.adb_model.specs.Account.{Account, account_of}
 use Rattle.adb_model.specs.Call.{Store, Root, Purge, Load, Unpin, Lease, EndLease, FlushBegin, FlushEnd, FlushAbort, Raise, Reclaim, ShrinkBegin, ShrinkEnd, ShrinkAbort, SnapBegin, SnapEnd, Recycle, Stats}
 use Rattle.adb_model.specs.View.{View}
 use Rattle.text_fields.specs.Keys.{key_of}
+use Rattle.text_fields.specs.Names.{name_of}
 use Rattle.text_fields.specs.Numbers.{number_of}
 use Rattle.script.specs.Data.{IsData}
-use Rattle.script.specs.Said.{Order, Plain, Get, Flush, Clean, Shrink, Line, Said}
+use Rattle.script.specs.Said.{Order, Plain, Get, Flush, Clean, Shrink, Snap, Line, Said}
 use Rattle.script.specs.Text.{flag_text}
 use Rattle.script.specs.Views.{IsMaxRoot, IsView}
 use Rattle.script.specs.Words.{words, is_skipped}
@@ -101,6 +102,14 @@ pub record IsReclaim (ws : List (List ℕ)) (after : Option (List ℕ)) (most : 
   pub after_is : IsAfter after_word after
   pub most_is : IsUpTo 256 most_word most
 
+-- `snap SLOT NAME`
+pub record IsSnap (ws : List (List ℕ)) (slot : ℕ) (name : List ℕ) : Type 0 where
+  pub slot_word : List ℕ
+  pub name_word : List ℕ
+  pub words : ws ≡ codes "snap" ∷ slot_word ∷ name_word ∷ []
+  pub slot_is : number_of slot_word ≡ Some slot
+  pub name_is : name_of name_word ≡ Some name
+
 -- the words after the lane
 abbrev pub IsOrder : List (List ℕ) → Order → Type 0
 IsOrder ws (Plain (Store slot key account)) = IsStore ws slot key account
@@ -126,6 +135,7 @@ IsOrder ws (Get view key) = IsOfView (codes "get") ws view key
 IsOrder ws (Flush slot workers) = IsFlush ws slot workers
 IsOrder ws (Clean upto) = IsOfNumber (codes "clean") ws upto
 IsOrder ws (Shrink slot) = IsOfNumber (codes "shrink") ws slot
+IsOrder ws (Snap slot name) = IsSnap ws slot name
 
 -- the words of a line: a lane from 1 to 64, and what it is to do
 pub record IsLine (ws : List (List ℕ)) (line : Line) : Type 0 where
@@ -144,11 +154,23 @@ AreLines (ws ∷ rest) (line ∷ lines) = IsLine ws line × AreLines rest lines
 AreLines [] (line ∷ lines) = ⊥
 AreLines (ws ∷ rest) [] = ⊥
 
--- `budget N` is the first of them, where there is a budget; the others are the lines
-abbrev pub AreSaid : List (List (List ℕ)) → Option ℕ → List Line → Type 0
-AreSaid wss None lines = AreLines wss lines
-AreSaid (ws ∷ rest) (Some budget) lines = IsOfNumber (codes "budget") ws budget × AreLines rest lines
-AreSaid [] (Some budget) lines = ⊥
+-- `open NAME`
+pub record IsOpen (ws : List (List ℕ)) (name : List ℕ) : Type 0 where
+  pub name_word : List ℕ
+  pub words : ws ≡ codes "open" ∷ name_word ∷ []
+  pub name_is : name_of name_word ≡ Some name
+
+-- `open NAME` is the first of them, where a snapshot is opened; the others are the lines
+abbrev pub AreOpened : List (List (List ℕ)) → Option (List ℕ) → List Line → Type 0
+AreOpened wss None lines = AreLines wss lines
+AreOpened (ws ∷ rest) (Some name) lines = IsOpen ws name × AreLines rest lines
+AreOpened [] (Some name) lines = ⊥
+
+-- `budget N` is the first of them, where there is a budget; the others are `open NAME`, if there is one, and the lines
+abbrev pub AreSaid : List (List (List ℕ)) → Option ℕ → Option (List ℕ) → List Line → Type 0
+AreSaid wss None opened lines = AreOpened wss opened lines
+AreSaid (ws ∷ rest) (Some budget) opened lines = IsOfNumber (codes "budget") ws budget × AreOpened rest opened lines
+AreSaid [] (Some budget) opened lines = ⊥
 
 -- the lines of some bytes, each as its words, but for those that are skipped
 abbrev pub spoken : List (List ℕ) → List (List (List ℕ))
@@ -156,7 +178,7 @@ spoken ls = filter (λ ws. not (is_skipped ws)) (map words ls)
 
 -- the bytes are a script that says this
 abbrev pub IsScript : List ℕ → Said → Type 0
-IsScript bytes said = AreSaid (spoken (lines bytes)) said.budget said.lines
+IsScript bytes said = AreSaid (spoken (lines bytes)) said.budget said.opened said.lines
 
 -- the bytes are no script
 abbrev pub IsNoScript : List ℕ → Type 0

@@ -8,3 +8,4 @@ pub mod Grammar
 pub mod Reader
 pub mod Seen
 pub mod Laws
+pub mod Printed

@@ -1,25 +1,24 @@
 -- A script as it is read, from left to right: its lines, or the first bad word.
-use Rattle.std.specs.Prelude.{ℕ, ◌+◌, nat_le, ◌&&◌, Bool, false, if◌then◌else◌, List, [], ◌∷◌, length, codes, replicate, Option, Some, None, option_and_then, Result, Ok, Err}
+use Rattle.std.specs.Prelude.{ℕ, ◌+◌, nat_le, ◌&&◌, ◌||◌, Bool, false, if◌then◌else◌, List, [], ◌∷◌, length, codes, replicate, Option, Some, None, option_and_then, Result, Ok, Err}
 use Rattle.std.specs.Str.{bytes_eq}
 use Rattle.std.specs.Str.Lines.{lines}
 use Rattle.adb_model.specs.Account.{account_of}
 use Rattle.adb_model.specs.Call.{Call, Store, Root, Purge, Load, Unpin, Lease, EndLease, FlushBegin, FlushEnd, FlushAbort, Raise, Reclaim, ShrinkBegin, ShrinkEnd, ShrinkAbort, SnapBegin, SnapEnd, Recycle, Stats}
 use Rattle.adb_model.specs.View.{View}
 use Rattle.text_fields.specs.Keys.{key_of}
+use Rattle.text_fields.specs.Names.{name_of}
 use Rattle.text_fields.specs.Numbers.{number_of}
 use Rattle.script.specs.declared.fault.Kind.{Kind}
 use Rattle.script.specs.declared.fault.Kind.TheVariants as kinds
 use Rattle.script.specs.declared.fault.WordFault.{WordFault}
 use Rattle.script.specs.declared.fault.LineFault.{LineFault}
-use Rattle.script.specs.declared.line.Leading.{Leading}
-use Rattle.script.specs.declared.line.Leading.TheVariants as leadings
 use Rattle.script.specs.Arguments.{view_of, flag_of, data_of, max_root_of, after_of}
-use Rattle.script.specs.Said.{Order, Plain, Get, Flush, Clean, Shrink, Line, Said}
+use Rattle.script.specs.Said.{Order, Plain, Get, Flush, Clean, Shrink, Snap, Line, Said}
 use Rattle.script.specs.Words.{words, is_skipped}
 
 -- the second step, where the first gave a value
 infixl 10 ◌>>=◌
-abbrev pub ◌>>=◌ : {A B : Type 0} → Result A WordFault → (A → Result B WordFault) → Result B WordFault
+abbrev pub ◌>>=◌ : {A B E : Type 0} → Result A E → (A → Result B E) → Result B E
 (Ok x) >>= f = f x
 (Err e) >>= f = Err e
 
@@ -99,6 +98,20 @@ flush_of ws = do
   done ← ended 5 workers.1
   Ok (Flush slot.0 workers.0)
 
+unfoldable pub snap_of : List (List ℕ) → Result Order WordFault
+snap_of ws = do
+  slot ← argument number_of kinds.Number 3 ws
+  name ← argument name_of kinds.Name 4 slot.1
+  done ← ended 5 name.1
+  Ok (Snap slot.0 name.0)
+
+-- the name of a header that has no more than that
+unfoldable pub only_name : List (List ℕ) → Result (List ℕ) WordFault
+only_name ws = do
+  name ← argument name_of kinds.Name 2 ws
+  done ← ended 3 name.1
+  Ok name.0
+
 -- the view and the key of an order that has no more than that
 unfoldable pub view_and_key_of : List (List ℕ) → Result (View × List ℕ) WordFault
 view_and_key_of ws = do
@@ -125,18 +138,19 @@ only_max_root ws = do
 abbrev pub alone : Call → List (List ℕ) → Result Order WordFault
 alone call ws = ended 3 ws >>= λ done. Ok (Plain call)
 
--- the commands of shrinks and of snapshots that have a number and no more
+-- the commands of shrinks and of snapshots
 unfoldable pub copying_of : List ℕ → List (List ℕ) → Result Order WordFault
 copying_of w ws =
     if bytes_eq w (codes "shrink-begin") then number_order (λ slot. Plain (ShrinkBegin slot)) ws
     else if bytes_eq w (codes "shrink-end") then number_order (λ slot. Plain (ShrinkEnd slot)) ws
     else if bytes_eq w (codes "shrink-abort") then number_order (λ slot. Plain (ShrinkAbort slot)) ws
     else if bytes_eq w (codes "shrink") then number_order (λ slot. Shrink slot) ws
+    else if bytes_eq w (codes "snap") then snap_of ws
     else if bytes_eq w (codes "snap-begin") then number_order (λ slot. Plain (SnapBegin slot)) ws
     else if bytes_eq w (codes "snap-end") then number_order (λ slot. Plain (SnapEnd slot)) ws
     else fault 2 kinds.Unknown
 
--- the commands that have a number and no more
+-- these commands, and those that have a number and no more
 unfoldable pub numbered_of : List ℕ → List (List ℕ) → Result Order WordFault
 numbered_of w ws =
     if bytes_eq w (codes "root") then number_order (λ slot. Plain (Root slot)) ws
@@ -165,9 +179,9 @@ order_of (w ∷ ws) =
 
 -- the first word of a header
 abbrev pub is_header : List ℕ → Bool
-is_header w = bytes_eq w (codes "budget")
+is_header w = bytes_eq w (codes "budget") || bytes_eq w (codes "open")
 
--- what is wrong with a first word that is no lane: a header stands before all other lines, and once
+-- what is wrong with a first word that is no lane: a header line stands before all others, in its order and once
 unfoldable pub first_fault : List ℕ → Kind
 first_fault w = if is_header w then kinds.Header else kinds.Lane
 
@@ -198,31 +212,55 @@ abbrev pub lines_from : ℕ → List (List ℕ) → Result (List Line) LineFault
 lines_from number [] = Ok []
 lines_from number (l ∷ ls) = and_then number (said_by (words l)) (lines_from (number + 1) ls)
 
--- a budget, and the lines after it
-abbrev pub with_budget : Option ℕ → Result (List Line) LineFault → Result Said LineFault
-with_budget budget (Ok lines) = Ok (record { budget = budget; lines = lines })
-with_budget budget (Err f) = Err f
+-- some lines, and the number of the first
+abbrev pub Numbered : Type 0
+Numbered = ℕ × List (List ℕ)
 
--- what a line is before which only skipped ones stand
-abbrev pub unskipped : List (List ℕ) → Result Leading WordFault
-unskipped [] = Ok leadings.Skipped
-unskipped (w ∷ ws) = if is_header w then (only_number 2 ws >>= λ budget. Ok (leadings.Header budget)) else Ok leadings.Lane
+-- the lines from the first on that is not skipped
+abbrev pub unskipped : ℕ → List (List ℕ) → Numbered
+unskipped number [] = (number, [])
+unskipped number (l ∷ ls) = if is_skipped (words l) then unskipped (number + 1) ls else (number, l ∷ ls)
 
-unfoldable pub leading_of : List (List ℕ) → Result Leading WordFault
-leading_of ws = if is_skipped ws then Ok leadings.Skipped else unskipped ws
+-- the words that follow this one in a line, where the line begins with it, and the lines after that one
+abbrev pub words_after : List ℕ → List (List ℕ) → Numbered → Option (List (List ℕ) × Numbered)
+words_after first [] rest = None
+words_after first (w ∷ ws) rest = if bytes_eq w first then Some (ws, rest) else None
 
--- a leading line of this kind; what the lines after it say, with a header or without; and what it and they say
-abbrev pub headed : ℕ → Result Leading WordFault → Result Said LineFault → Result (List Line) LineFault → Result (List Line) LineFault → Result Said LineFault
-headed number (Err f) more rest whole = Err (record { line = number; word = f.word; kind = f.kind })
-headed number (Ok leadings.Skipped) more rest whole = more
-headed number (Ok (leadings.Header budget)) more rest whole = with_budget (Some budget) rest
-headed number (Ok leadings.Lane) more rest whole = with_budget None whole
+-- the same of the first of some lines
+abbrev pub header_words : List ℕ → Numbered → Option (List (List ℕ) × Numbered)
+header_words first (number, []) = None
+header_words first (number, l ∷ ls) = words_after first (words l) (number + 1, ls)
 
--- what some lines say that may begin with a header
-abbrev pub said_from : ℕ → List (List ℕ) → Result Said LineFault
-said_from number [] = Ok (record { budget = None; lines = [] })
-said_from number (l ∷ ls) = headed number (leading_of (words l)) (said_from (number + 1) ls) (lines_from (number + 1) ls) (lines_from number (l ∷ ls))
+-- what a header line of this number says, and the lines after it
+abbrev pub headed : {A : Type 0} → ℕ → Result A WordFault → Numbered → Result (Option A × Numbered) LineFault
+headed number (Ok x) rest = Ok (Some x, rest)
+headed number (Err f) rest = Err (record { line = number; word = f.word; kind = f.kind })
+
+-- the same of the words of a header that was found; else nothing, and all of the lines
+abbrev pub header_read : {A : Type 0} → (List (List ℕ) → Result A WordFault) → Numbered → Option (List (List ℕ) × Numbered) → Result (Option A × Numbered) LineFault
+header_read read rest None = Ok (None, rest)
+header_read read rest (Some after) = headed rest.0 (read after.0) after.1
+
+-- what a header says that begins with this word and goes on with words that are read so, if the first of some lines is one
+abbrev pub header_in : {A : Type 0} → List ℕ → (List (List ℕ) → Result A WordFault) → Numbered → Result (Option A × Numbered) LineFault
+header_in first read rest = header_read read rest (header_words first rest)
+
+-- the same of the first line that counts
+abbrev pub header_from : {A : Type 0} → List ℕ → (List (List ℕ) → Result A WordFault) → Numbered → Result (Option A × Numbered) LineFault
+header_from first read rest = header_in first read (unskipped rest.0 rest.1)
+
+-- the budget of some lines that begin a script
+unfoldable pub budget_from : Numbered → Result (Option ℕ × Numbered) LineFault
+budget_from rest = header_from (codes "budget") (only_number 2) rest
+
+-- the name of the snapshot that lines open which follow the budget
+unfoldable pub opened_from : Numbered → Result (Option (List ℕ) × Numbered) LineFault
+opened_from rest = header_from (codes "open") only_name rest
 
 -- what the bytes of a script say, or their first bad word
 unfoldable pub script_of : List ℕ → Result Said LineFault
-script_of bytes = said_from 1 (lines bytes)
+script_of bytes = do
+  budget ← budget_from (1, lines bytes)
+  opened ← opened_from budget.1
+  said ← lines_from opened.1.0 opened.1.1
+  Ok (record { budget = budget.0; opened = opened.0; lines = said })

@@ -1,5 +1,6 @@
 -- What the program's values stand for.
-use Rattle.std.specs.Prelude.{◌≡◌, ℕ, map, Result, Ok, Err}
+use Rattle.std.specs.Prelude.{◌≡◌, ◌+◌, ℕ, length, map, Result, Ok, Err, option_map, string_bytes}
+use Rattle.std.specs.Str.Lines.{lines}
 use Rattle.adb_model.specs.Seen.{call_of}
 use Rattle.script.specs.declared.fault.WordFault.{WordFault}
 use Rattle.script.specs.declared.fault.LineFault.{LineFault}
@@ -11,6 +12,8 @@ use Rattle.script.specs.declared.line.Order.{Order}
 use Rattle.script.specs.declared.line.Order.TheVariants as orders
 use Rattle.script.specs.declared.line.Line.{Line}
 use Rattle.script.specs.declared.line.Script.{Script}
+use Rattle.script.specs.declared.parsing.Rest.{Rest}
+use Rattle.script.specs.Reader.{Numbered}
 use Rattle.script.specs.Said as said
 use Rattle.script.specs.Said.{Said}
 
@@ -20,13 +23,22 @@ order_seen (orders.Get view key) = said.Get view key.0
 order_seen (orders.Flush slot workers) = said.Flush slot workers
 order_seen (orders.Clean upto) = said.Clean upto
 order_seen (orders.Shrink slot) = said.Shrink slot
+order_seen (orders.Snap slot name) = said.Snap slot (string_bytes name)
 
 abbrev pub line_seen : Line → said.Line
 line_seen l = record { lane = l.lane; order = order_seen l.order }
 
+-- the lines that are left
+abbrev pub rest_seen : Rest → Numbered
+rest_seen rest = (rest.number, lines rest.bytes.now)
+
+-- none of them has a greater number
+abbrev pub most_number : Rest → ℕ
+most_number rest = rest.number + length rest.bytes.now
+
 -- what a script says
 abbrev pub script_seen : Script → Said
-script_seen s = record { budget = s.budget; lines = map line_seen s.lines.items }
+script_seen s = record { budget = s.budget; opened = option_map string_bytes s.opened; lines = map line_seen s.lines.items }
 
 -- what a function answered, seen so, is what the reader gives, unless memory ran out
 abbrev pub Fails : {Y : Type 0} → ReadError → Result Y WordFault → Type 0

@@ -30,6 +30,10 @@ flag_text false = codes "0"
 unfoldable pub account_text : Account → List ℕ
 account_text a = spaced (decimal a.lamports ∷ key_text a.owner ∷ flag_text a.executable ∷ decimal a.rent_epoch ∷ data_text a.bytes ∷ [])
 
+-- `KEY SLOT ACCOUNT`: an account that is listed
+unfoldable pub account_line : List ℕ → ℕ → Account → List ℕ
+account_line key slot account = spaced (key_text key ∷ decimal slot ∷ account_text account ∷ []) ++ 10 ∷ []
+
 -- `-`, or numbers joined by commas
 unfoldable pub slots_text : List ℕ → List ℕ
 slots_text [] = codes "-"

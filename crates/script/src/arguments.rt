@@ -1,6 +1,7 @@
-ghost use Rattle.std.specs.Prelude.{◌≡◌, ◌≤◌, false, List, ℕ, [], length, replicate, option_map, IfOk};
+ghost use Rattle.std.specs.Prelude.{◌≡◌, ◌≤◌, false, List, ℕ, [], length, replicate, option_map, string_bytes, IfOk};
 ghost use Rattle.script.specs.declared.fault.Kind.TheVariants as kinds;
 ghost use Rattle.text_fields.specs.Keys.{key_of};
+ghost use Rattle.text_fields.specs.Names.{name_of};
 ghost use Rattle.text_fields.specs.Numbers.{number_of};
 ghost use Rattle.script.specs.Arguments.{view_of, max_root_of, flag_of, after_of};
 ghost use Rattle.script.specs.Reader as reader;
@@ -13,7 +14,7 @@ use crate::view_words::{LastView, read_max_root};
 use crate::words::split_word;
 use adb_model::{Key, View};
 use std::alloc::Global;
-use text_fields::{read_key, read_number};
+use text_fields::{read_key, read_name, read_number};
 
 /// The most workers of a flush.
 const MOST_WORKERS: u64 = 16;
@@ -171,6 +172,20 @@ pub fn epoch_at(line: &[u8]) -> Result<(u64, &[u8]), ReadError>
     match read_number(text) {
         Some(epoch) => Ok((epoch, rest)),
         None => Err(fault(8, Kind::Number)),
+    }
+}
+
+/// The same of the name of a snapshot.
+#[tactic(auto, unfolding(crate::specs::Reader::argument))]
+pub fn name_at(alloc: Global, word: u32, line: &[u8]) -> Result<(String, &[u8]), ReadError>
+    ensures { Gives (λ x. (string_bytes x.0, words x.1.now)) result (reader.argument name_of kinds.Name word (words line.now)) }
+{
+    let Some((text, rest)) = split_word(line) else {
+        return Err(fault(word, Kind::Missing));
+    };
+    match read_name(text) {
+        Some(name) => Ok((String::from_str(alloc, name)?, rest)),
+        None => Err(fault(word, Kind::Name)),
     }
 }
 

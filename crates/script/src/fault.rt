@@ -27,6 +27,7 @@ pub enum Kind {
     Range,
     Data,
     DataTooLong,
+    Name,
 }
 
 /// The first bad word of a line; words count from 1.

@@ -19,6 +19,8 @@ pub enum Order {
     Clean { upto: Slot },
     /// A shrink, begun and, where it began, ended.
     Shrink { slot: Slot },
+    /// A snapshot, begun and, where it began, written under this name and ended.
+    Snap { slot: Slot, name: String },
 }
 
 /// A line of a script: the lane that plays it, and what it asks for.
@@ -28,11 +30,15 @@ pub struct Line {
     pub order: Order,
 }
 
-/// What a script says: the budget of its header, if it has one, and its lines, but for the skipped ones.
+/// What a script says: its header, and its lines, but for the skipped ones.
 #[derive(Drop)]
 pub struct Script {
-    /// The most bytes that the storages have together.
+    /// The most bytes that the storages have together, where the header says so.
     pub budget: Option<u64>,
+
+    /// The name of the snapshot that is opened before the first line, if one is.
+    pub opened: Option<String>,
+
     pub lines: Vec<Line>,
 }
 
@@ -43,15 +49,4 @@ impl Script {
     {
         self.budget.unwrap_or(DEFAULT_BUDGET)
     }
-}
-
-/// What a line is before which only skipped ones stand.
-#[derive(Clone, Copy, Debug, PartialEq, Eq)]
-pub enum Leading {
-    /// It is skipped.
-    Skipped,
-    /// A header, which says the budget.
-    Header { budget: u64 },
-    /// A lane's line.
-    Lane,
 }

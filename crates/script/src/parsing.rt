@@ -1,15 +1,15 @@
-ghost use Rattle.std.specs.Prelude.{◌≡◌, ◌==◌, ◌<◌, ◌≤◌, ◌+◌, ◌^◌, ◌∷◌, length, map, IfOk, IfErr};
+ghost use Rattle.std.specs.Prelude.{◌≡◌, ◌==◌, ◌<◌, ◌≤◌, ◌+◌, ◌^◌, ◌∷◌, length, map, string_bytes, IfOk, IfSome};
 ghost use Rattle.std.specs.List.{position_or_len};
 ghost use Rattle.std.specs.Option.{option_map};
 ghost use Rattle.std.specs.Str.Lines.{lines as lines_of, strip_carriage_return};
 ghost use Rattle.script.specs.Grammar.{IsScript, IsNoScript};
-ghost use Rattle.script.specs.Reader.{said_by, lines_from, with_budget, script_of};
-ghost use Rattle.script.specs.Seen.{Gives, FailsScript, GivesScript, line_seen, script_seen, error_at};
-ghost use Rattle.script.specs.Words.{words};
+ghost use Rattle.script.specs.Reader as reader;
+ghost use Rattle.script.specs.Seen.{Gives, GivesScript, line_seen, most_number, rest_seen, script_seen, error_at};
+ghost use Rattle.script.specs.Words as texts;
 
 use crate::fault::{LineError, LineFault, ReadError, ScriptFault};
-use crate::line::{Leading, Line, Script};
-use crate::reading::{read_leading, read_line};
+use crate::line::{Line, Script};
+use crate::reading::{only_name, only_number, read_line};
 use crate::view_words::LastView;
 use crate::words::{begins_comment, split_word};
 use memchr::memchr;
@@ -53,7 +53,7 @@ fn said<'a>(
     last: &mut LastView<'a>,
     line: &'a [u8],
 ) -> Result<Option<Line>, ReadError>
-    ensures { Gives (λ o. option_map line_seen o) result (said_by (words line.now)) }
+    ensures { Gives (λ o. option_map line_seen o) result (reader.said_by (texts.words line.now)) }
 {
     let Some((first, rest)) = split_word(line) else {
         return Ok(None);
@@ -77,57 +77,104 @@ fn at_line(line: u64, error: ReadError) -> LineError
     }
 }
 
-// The header of a script, if it has one, and the lines after it, of which the first has this number.
-#[derive(Drop)]
-struct Header<'a> {
-    budget: Option<u64>,
+// The lines of a script from one on: the number of that line, and the bytes.
+#[derive(Clone, Copy)]
+struct Rest<'a> {
     number: u64,
-    rest: &'a [u8],
+    bytes: &'a [u8],
 }
 
-// A script's header, or its first bad word.
-#[tactic(auto, unfolding(crate::specs::Reader::script_of))]
-fn read_header(bytes: &[u8]) -> Result<Header<'_>, LineError>
-    ensures header { IfOk result (λ h. script_of bytes.now ≡ with_budget h.budget (lines_from h.number (lines_of h.rest.now))) }
-    ensures counted { IfOk result (λ h. h.number + length h.rest.now ≤ length bytes.now + 1) }
-    ensures fault { IfErr result (λ e. FailsScript e (script_of bytes.now)) }
+// Whether the line has no words, or is a comment.
+fn is_skipped(line: &[u8]) -> bool
+    ensures { result ≡ texts.is_skipped (texts.words line.now) }
 {
-    let mut rest = bytes;
-    let mut number = 1;
-    while !rest.is_empty() {
-        let (line, after) = next_line(rest);
-        match read_leading(line) {
-            Ok(Leading::Skipped) => {}
-            Ok(Leading::Header { budget }) => {
-                return Ok(Header {
-                    budget: Some(budget),
-                    number: number + 1,
-                    rest: after,
-                });
-            }
-            Ok(Leading::Lane) => {
-                return Ok(Header {
-                    budget: None,
-                    number,
-                    rest,
-                });
-            }
-            Err(error) => return Err(at_line(number, error)),
+    match split_word(line) {
+        None => true,
+        Some((first, _)) => begins_comment(first),
+    }
+}
+
+// The lines from the first on that isn't skipped.
+fn past_skipped(rest: Rest<'_>) -> Rest<'_>
+    requires { most_number rest < 2 ^ 64 }
+    ensures lines { reader.unskipped rest.entry.number (lines_of rest.entry.bytes.now) ≡ rest_seen result }
+    ensures counted { most_number result ≤ most_number rest.entry }
+{
+    let Rest {
+        mut number,
+        mut bytes,
+    } = rest;
+    while !bytes.is_empty() {
+        let (line, after) = next_line(bytes);
+        if !is_skipped(line) {
+            break;
         }
         number += 1;
-        rest = after;
+        bytes = after;
     }
-    Ok(Header {
-        budget: None,
-        number,
-        rest,
-    })
+    Rest { number, bytes }
 }
 
-// What lines say that have no header, or their first bad word. The first of them has this number.
+// What the first line has after this word, where it begins with it, and the lines after that one.
+fn header<'a>(first: &[u8], rest: Rest<'a>) -> Option<(&'a [u8], Rest<'a>)>
+    requires { most_number rest < 2 ^ 64 }
+    ensures words { option_map (λ x. (texts.words x.0.now, rest_seen x.1)) result ≡ reader.header_words first.now (rest_seen rest.entry) }
+    ensures counted { IfSome result (λ x. most_number x.1 ≤ most_number rest.entry) }
+{
+    if rest.bytes.is_empty() {
+        return None;
+    }
+    let (line, bytes) = next_line(rest.bytes);
+    match split_word(line) {
+        Some((word, words)) if word == first => Some((
+            words,
+            Rest {
+                number: rest.number + 1,
+                bytes,
+            },
+        )),
+        _ => None,
+    }
+}
+
+// The budget, if the lines begin with one, and the lines after it.
+#[tactic(auto, unfolding(crate::specs::Reader::budget_from))]
+fn read_budget(rest: Rest<'_>) -> Result<(Option<u64>, Rest<'_>), LineError>
+    requires { most_number rest < 2 ^ 64 }
+    ensures read { GivesScript (λ x. (x.0, rest_seen x.1)) result (reader.budget_from (rest_seen rest.entry)) }
+    ensures counted { IfOk result (λ x. most_number x.1 ≤ most_number rest.entry) }
+{
+    let rest = past_skipped(rest);
+    let Some((words, after)) = header(b"budget", rest) else {
+        return Ok((None, rest));
+    };
+    match only_number(2, words) {
+        Ok(budget) => Ok((Some(budget), after)),
+        Err(error) => Err(at_line(rest.number, error)),
+    }
+}
+
+// The name of the snapshot that the lines open, if they begin so, and the lines after it.
+#[tactic(auto, unfolding(crate::specs::Reader::opened_from))]
+fn read_opened(alloc: Global, rest: Rest<'_>) -> Result<(Option<String>, Rest<'_>), LineError>
+    requires { most_number rest < 2 ^ 64 }
+    ensures read { GivesScript (λ x. (option_map string_bytes x.0, rest_seen x.1)) result (reader.opened_from (rest_seen rest.entry)) }
+    ensures counted { IfOk result (λ x. most_number x.1 ≤ most_number rest.entry) }
+{
+    let rest = past_skipped(rest);
+    let Some((words, after)) = header(b"open", rest) else {
+        return Ok((None, rest));
+    };
+    match only_name(alloc, words) {
+        Ok(name) => Ok((Some(name), after)),
+        Err(error) => Err(at_line(rest.number, error)),
+    }
+}
+
+// What the lines after the header say, or their first bad word.
 fn read_lines(alloc: Global, first: u64, bytes: &[u8]) -> Result<Vec<Line>, LineError>
     requires { first + length bytes.now < 2 ^ 64 }
-    ensures { GivesScript (λ lines. map line_seen lines.items) result (lines_from first (lines_of bytes.now)) }
+    ensures { GivesScript (λ lines. map line_seen lines.items) result (reader.lines_from first (lines_of bytes.now)) }
 {
     let mut lines = Vec::new(alloc);
     let mut last = LastView::new();
@@ -147,13 +194,16 @@ fn read_lines(alloc: Global, first: u64, bytes: &[u8]) -> Result<Vec<Line>, Line
 }
 
 /// What the bytes of a script say, or their first bad word.
+#[tactic(auto, unfolding(crate::specs::Reader::script_of))]
 pub fn read_script(alloc: Global, bytes: &[u8]) -> Result<Script, LineError>
-    ensures { GivesScript script_seen result (script_of bytes.now) }
+    ensures { GivesScript script_seen result (reader.script_of bytes.now) }
 {
-    let header = read_header(bytes)?;
-    let lines = read_lines(alloc, header.number, header.rest)?;
+    let (budget, rest) = read_budget(Rest { number: 1, bytes })?;
+    let (opened, rest) = read_opened(alloc, rest)?;
+    let lines = read_lines(alloc, rest.number, rest.bytes)?;
     Ok(Script {
-        budget: header.budget,
+        budget,
+        opened,
         lines,
     })
 }

@@ -1,17 +1,17 @@
-ghost use Rattle.std.specs.Prelude.{◌≡◌, ◌≤◌, ◌<◌, List, ℕ, [], ◌∷◌, length, IfOk};
+ghost use Rattle.std.specs.Prelude.{◌≡◌, ◌≤◌, ◌<◌, List, ℕ, [], ◌∷◌, length, string_bytes, IfOk};
 ghost use Rattle.adb_model.specs.Account.{account_of};
 ghost use Rattle.script.specs.Reader as reader;
 ghost use Rattle.script.specs.Seen.{Gives, order_seen, line_seen};
 ghost use Rattle.script.specs.Words.{words};
 
 use crate::arguments::{
-    after_at, count_at, data_at, end, epoch_at, executable_at, key_at, max_root_at, number_at,
-    owner_at, view_at, workers_at,
+    after_at, count_at, data_at, end, epoch_at, executable_at, key_at, max_root_at, name_at,
+    number_at, owner_at, view_at, workers_at,
 };
 use crate::fault::{Kind, ReadError, fault};
-use crate::line::{Leading, Line, Order};
+use crate::line::{Line, Order};
 use crate::view_words::LastView;
-use crate::words::{begins_comment, begins_header, split_word};
+use crate::words::{begins_header, split_word};
 use adb_model::{Account, Call, Key, View};
 use std::alloc::{AllocError, Global};
 use std::sync::Arc;
@@ -77,6 +77,26 @@ fn flush(line: &[u8]) -> Result<Order, ReadError>
     Ok(Order::Flush { slot, workers })
 }
 
+#[tactic(auto, unfolding(crate::specs::Reader::snap_of))]
+fn snap(alloc: Global, line: &[u8]) -> Result<Order, ReadError>
+    ensures { Gives order_seen result (reader.snap_of (words line.now)) }
+{
+    let (slot, rest) = number_at(3, line)?;
+    let (name, rest) = name_at(alloc, 4, rest)?;
+    end(5, rest)?;
+    Ok(Order::Snap { slot, name })
+}
+
+/// The name of a header that has no more than that.
+#[tactic(auto, unfolding(crate::specs::Reader::only_name))]
+pub fn only_name(alloc: Global, line: &[u8]) -> Result<String, ReadError>
+    ensures { Gives (λ name. string_bytes name) result (reader.only_name (words line.now)) }
+{
+    let (name, rest) = name_at(alloc, 2, line)?;
+    end(3, rest)?;
+    Ok(name)
+}
+
 #[tactic(auto, unfolding(crate::specs::Reader::reclaim_of))]
 fn reclaim(line: &[u8]) -> Result<Order, ReadError>
     ensures { Gives order_seen result (reader.reclaim_of (words line.now)) }
@@ -112,9 +132,9 @@ fn view_and_key<'a>(
     Ok((view, key))
 }
 
-// What a command of shrinks or of snapshots asks for that has a number and no more.
+// What a command of shrinks or of snapshots asks for.
 #[tactic(auto, unfolding(crate::specs::Reader::copying_of))]
-fn copying(command: &[u8], line: &[u8]) -> Result<Order, ReadError>
+fn copying(alloc: Global, command: &[u8], line: &[u8]) -> Result<Order, ReadError>
     ensures { Gives order_seen result (reader.copying_of command.now (words line.now)) }
 {
     if command == b"shrink-begin".as_slice() {
@@ -129,6 +149,8 @@ fn copying(command: &[u8], line: &[u8]) -> Result<Order, ReadError>
     } else if command == b"shrink".as_slice() {
         let slot = only_number(3, line)?;
         Ok(Order::Shrink { slot })
+    } else if command == b"snap".as_slice() {
+        snap(alloc, line)
     } else if command == b"snap-begin".as_slice() {
         let slot = only_number(3, line)?;
         Ok(Order::Event(Call::SnapBegin { slot }))
@@ -140,9 +162,9 @@ fn copying(command: &[u8], line: &[u8]) -> Result<Order, ReadError>
     }
 }
 
-// What a command asks for that has a number and no more.
+// What such a command asks for, or one that has a number and no more.
 #[tactic(auto, unfolding(crate::specs::Reader::numbered_of))]
-fn numbered(command: &[u8], line: &[u8]) -> Result<Order, ReadError>
+fn numbered(alloc: Global, command: &[u8], line: &[u8]) -> Result<Order, ReadError>
     ensures { Gives order_seen result (reader.numbered_of command.now (words line.now)) }
 {
     if command == b"root".as_slice() {
@@ -170,7 +192,7 @@ fn numbered(command: &[u8], line: &[u8]) -> Result<Order, ReadError>
         let upto = only_number(3, line)?;
         Ok(Order::Clean { upto })
     } else {
-        copying(command, line)
+        copying(alloc, command, line)
     }
 }
 
@@ -206,7 +228,7 @@ fn order<'a>(alloc: Global, last: &mut LastView<'a>, line: &'a [u8]) -> Result<O
         end(3, rest)?;
         Ok(Order::Event(Call::Stats))
     } else {
-        numbered(command, rest)
+        numbered(alloc, command, rest)
     }
 }
 
@@ -229,24 +251,6 @@ fn lane(word: &[u8]) -> Result<u64, ReadError>
         Some(lane @ 1..=MOST_LANES) => Ok(lane),
         _ => Err(fault(1, first_fault(word))),
     }
-}
-
-/// What a line is before which only skipped ones stand.
-#[tactic(auto, unfolding(crate::specs::Reader::leading_of))]
-pub fn read_leading(line: &[u8]) -> Result<Leading, ReadError>
-    ensures { Gives (λ leading. leading) result (reader.leading_of (words line.now)) }
-{
-    let Some((first, rest)) = split_word(line) else {
-        return Ok(Leading::Skipped);
-    };
-    if begins_comment(first) {
-        return Ok(Leading::Skipped);
-    }
-    if !begins_header(first) {
-        return Ok(Leading::Lane);
-    }
-    let budget = only_number(2, rest)?;
-    Ok(Leading::Header { budget })
 }
 
 /// What a line says that isn't skipped, by its first word and what follows that.

@@ -51,8 +51,8 @@ fn reply_to(call: &Call) -> Reply {
     }
 }
 
-// A script's header and lines as the journal has them, with these replies, and a flush, a clean or a shrink as it was read;
-// none where the bytes are no script.
+// A script's header and lines as the journal has them, with these replies, and a flush, a clean, a shrink or a snapshot as
+// it was read; none where the bytes are no script.
 fn journal(alloc: Global, bytes: &[u8]) -> Result<Option<String>, Fail> {
     let script = match parse(alloc, bytes) {
         Ok(script) => script,
@@ -61,8 +61,12 @@ fn journal(alloc: Global, bytes: &[u8]) -> Result<Option<String>, Fail> {
     };
     let mut all = String::new(alloc);
     let mut printer = JournalPrinter::new(alloc);
-    let header = printer.print_header(script.budget)?;
-    all.push_str(String::from_utf8(Vec::from_slice(alloc, header)?)?.as_str())?;
+    let budget = printer.print_budget(script.budget)?;
+    all.push_str(String::from_utf8(Vec::from_slice(alloc, budget)?)?.as_str())?;
+    if let Some(name) = &script.opened {
+        let opened = printer.print_opened(name, 120)?;
+        all.push_str(String::from_utf8(Vec::from_slice(alloc, opened)?)?.as_str())?;
+    }
     for line in &script.lines {
         let text = match &line.order {
             Order::Event(call) => line_text(alloc, line.lane, call, &reply_to(call))?,
@@ -83,6 +87,10 @@ fn journal(alloc: Global, bytes: &[u8]) -> Result<Option<String>, Fail> {
             Order::Shrink { slot } => {
                 let lane = line.lane;
                 format!(in alloc; "{lane} shrink {slot}\n")?.into_bytes()
+            }
+            Order::Snap { slot, name } => {
+                let lane = line.lane;
+                format!(in alloc; "{lane} snap {slot} {name}\n")?.into_bytes()
             }
         };
         all.push_str(String::from_utf8(text)?.as_str())?;
@@ -141,6 +149,15 @@ fn scripts_say_these_lines(rt: HostRuntime) -> Result<(), Fail> {
         (
             "budget 408\n#\n1 flush-begin 04 = full 272 144 408\n1 flush-end 4\n2 flush-abort 4\n",
             "budget 408 = ok\n1 flush-begin 4 = ok 3 136\n1 flush-end 4 = ok\n2 flush-abort 4 = ok\n",
+        ),
+        ("open s1", "open s1 = ok 120\n"),
+        (
+            "#\n budget 408 = ok\n\n\topen _A-9 = ok 5\r\n1 root 5",
+            "budget 408 = ok\nopen _A-9 = ok 120\n1 root 5 = ok\n",
+        ),
+        (
+            "1 snap 05 s1 = ok\n64 snap 6 abcdefghijklmnopqrstuvwxyzABCDEFGHIJKLMNOPQRSTUVWXYZ0123456789_-",
+            "1 snap 5 s1\n64 snap 6 abcdefghijklmnopqrstuvwxyzABCDEFGHIJKLMNOPQRSTUVWXYZ0123456789_-\n",
         ),
         (
             "1 flush 05\n1 flush 5 1\n64 flush 6 00016 = 17",
@@ -240,7 +257,14 @@ fn other_bytes_are_no_script(rt: HostRuntime) -> Result<(), Fail> {
         ("Budget 1", 1, 1, Kind::Lane),
         ("budget=1", 1, 1, Kind::Lane),
         ("1 budget 5", 1, 2, Kind::Unknown),
-        ("open a", 1, 1, Kind::Lane),
+        ("open", 1, 2, Kind::Missing),
+        ("open -a", 1, 2, Kind::Name),
+        ("open a/b", 1, 2, Kind::Name),
+        ("open \u{e9}", 1, 2, Kind::Name),
+        ("open a b", 1, 3, Kind::Surplus),
+        ("open a\nbudget 1", 2, 1, Kind::Header),
+        ("open a\nopen b", 2, 1, Kind::Header),
+        ("budget 1\n1 stats\nopen a", 3, 1, Kind::Header),
         ("1 store 5", 1, 4, Kind::Missing),
         ("1 store 5 01", 1, 5, Kind::Missing),
         ("1 store 5 0 1", 1, 4, Kind::Key),
@@ -365,6 +389,16 @@ fn other_words_are_no_order_of_storages(rt: HostRuntime) -> Result<(), Fail> {
         ("1 shrink-abort all", 1, 3, Kind::Number),
         ("1 shrink-abort 2 2", 1, 4, Kind::Surplus),
         ("1 shrink-", 1, 2, Kind::Unknown),
+        ("1 snap x s", 1, 3, Kind::Number),
+        ("1 snap 5", 1, 4, Kind::Missing),
+        ("1 snap 5 -s", 1, 4, Kind::Name),
+        ("1 snap 5 s s", 1, 5, Kind::Surplus),
+        (
+            "1 snap 5 abcdefghijklmnopqrstuvwxyzABCDEFGHIJKLMNOPQRSTUVWXYZ0123456789_-a",
+            1,
+            4,
+            Kind::Name,
+        ),
         ("1 snap-begin", 1, 3, Kind::Missing),
         ("1 snap-begin x", 1, 3, Kind::Number),
         ("1 snap-end 5 s", 1, 4, Kind::Surplus),

@@ -2,11 +2,12 @@ ghost use Rattle.std.specs.Prelude.{◌≡◌, ◌++◌, ◌∷◌, [], option_m
 ghost use Rattle.std.specs.Fmt.{decimal};
 ghost use Rattle.std.specs.String.{string_bytes};
 ghost use Rattle.adb_model.specs.Seen.{call_of, counts_of, reply_of, place_of, refusal_of};
-ghost use Rattle.script.specs.Said.{header_of};
+ghost use Rattle.script.specs.Said.{budget_line, open_line};
+ghost use Rattle.script.specs.Printed.{account_with};
 ghost use Rattle.script.specs.Text as texts;
 
 use crate::printed_view::PrintedView;
-use adb_model::{Account, Call, Key, Place, Refusal, Reply, Slot, Stats};
+use adb_model::{Account, Call, Head, Key, Place, Refusal, Reply, Slot, Stats};
 use std::alloc::{AllocError, Global};
 use std::fmt::Write;
 use text_fields::{push_hex, push_key, push_number};
@@ -51,16 +52,22 @@ fn push_data(text: &mut String, bytes: &[u8]) -> Result<(), AllocError>
     push_hex(text, bytes)
 }
 
+// Puts the fields of an account at the end of a text.
 #[tactic(auto, unfolding(crate::specs::Text::account_text))]
-fn push_account(text: &mut String, account: &Account) -> Result<(), AllocError>
-    ensures { OnOk result (string_bytes text.new ≡ string_bytes text.old ++ texts.account_text account.now) }
+fn push_fields(text: &mut String, head: &Head, body: &[u8]) -> Result<(), AllocError>
+    ensures { OnOk result (string_bytes text.new ≡ string_bytes text.old ++ texts.account_text (account_with head.now body.now)) }
 {
-    let head = account.head();
     push_spaced(text, head.lamports)?;
     push_key(text, &head.owner)?;
     text.push_str(if head.executable { " 1 " } else { " 0 " })?;
     push_spaced(text, head.rent_epoch)?;
-    push_data(text, account.data())
+    push_data(text, body)
+}
+
+fn push_account(text: &mut String, account: &Account) -> Result<(), AllocError>
+    ensures { OnOk result (string_bytes text.new ≡ string_bytes text.old ++ texts.account_text account.now) }
+{
+    push_fields(text, &account.head(), account.data())
 }
 
 /// Puts `all`, or the number, at the end of a text.
@@ -278,10 +285,10 @@ fn push_line(
     text.push_str("\n")
 }
 
-// Puts the line of a header, if there is one, at the end of a text.
-#[tactic(auto, unfolding(crate::specs::Said::header_of))]
-fn push_header(text: &mut String, budget: Option<u64>) -> Result<(), AllocError>
-    ensures { OnOk result (string_bytes text.new ≡ string_bytes text.old ++ header_of budget) }
+// Puts the line of a budget, if there is one, at the end of a text.
+#[tactic(auto, unfolding(crate::specs::Said::budget_line))]
+fn push_budget(text: &mut String, budget: Option<u64>) -> Result<(), AllocError>
+    ensures { OnOk result (string_bytes text.new ≡ string_bytes text.old ++ budget_line budget) }
 {
     match budget {
         None => Ok(()),
@@ -290,6 +297,33 @@ fn push_header(text: &mut String, budget: Option<u64>) -> Result<(), AllocError>
             text.push_str("\n")
         }
     }
+}
+
+// Puts the line of a snapshot that was opened at the end of a text.
+#[tactic(auto, unfolding(crate::specs::Said::open_line))]
+fn push_opened(text: &mut String, name: &str, slot: Slot) -> Result<(), AllocError>
+    ensures { OnOk result (string_bytes text.new ≡ string_bytes text.old ++ open_line name.now slot) }
+{
+    write!(text, "open {name} = ok {slot}")?;
+    text.push_str("\n")
+}
+
+// Puts the line of an account that is listed at the end of a text.
+#[tactic(auto, unfolding(crate::specs::Text::account_line))]
+fn push_listed(
+    text: &mut String,
+    key: &Key,
+    slot: Slot,
+    head: &Head,
+    body: &[u8],
+) -> Result<(), AllocError>
+    ensures { OnOk result (string_bytes text.new ≡ string_bytes text.old ++ texts.account_line key.now.0 slot (account_with head.now body.now)) }
+{
+    push_key(text, &key.0)?;
+    text.push_str(" ")?;
+    push_spaced(text, slot)?;
+    push_fields(text, head, body)?;
+    text.push_str("\n")
 }
 
 /// Prints the lines of a journal, one after the other.
@@ -311,12 +345,36 @@ impl JournalPrinter {
         }
     }
 
-    /// The journal's line of a script's header, which says its budget; nothing where there is no header.
-    pub fn print_header(&mut self, budget: Option<u64>) -> Result<&[u8], AllocError>
-        ensures { IfOk result (λ line. line.now ≡ header_of budget) }
+    /// The journal's line of the budget that a script's header says; nothing where it says none.
+    pub fn print_budget(&mut self, budget: Option<u64>) -> Result<&[u8], AllocError>
+        ensures { IfOk result (λ line. line.now ≡ budget_line budget) }
     {
         self.line.clear();
-        push_header(&mut self.line, budget)?;
+        push_budget(&mut self.line, budget)?;
+        Ok(self.line.as_bytes())
+    }
+
+    /// The journal's line of a snapshot of this name and slot that was opened.
+    pub fn print_opened(&mut self, name: &str, slot: Slot) -> Result<&[u8], AllocError>
+        ensures { IfOk result (λ line. line.now ≡ open_line name.now slot) }
+    {
+        self.line.clear();
+        push_opened(&mut self.line, name, slot)?;
+        Ok(self.line.as_bytes())
+    }
+
+    /// The line of an account that is listed: its key, the slot in which it was stored, and its fields.
+    pub fn print_account(
+        &mut self,
+        key: &Key,
+        slot: Slot,
+        head: &Head,
+        body: &[u8],
+    ) -> Result<&[u8], AllocError>
+        ensures { IfOk result (λ line. line.now ≡ texts.account_line key.now.0 slot (account_with head.now body.now)) }
+    {
+        self.line.clear();
+        push_listed(&mut self.line, key, slot, head, body)?;
         Ok(self.line.as_bytes())
     }
 

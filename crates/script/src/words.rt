@@ -3,7 +3,10 @@ ghost use Rattle.std.specs.List.{position_or_len, prefix_len, before_first, afte
 ghost use Rattle.script.specs.Reader as reader;
 ghost use Rattle.script.specs.Words as texts;
 
-use memchr::memchr;
+use memchr::{memchr, memchr2};
+
+/// Most words end within so many bytes, in which their end is looked for byte by byte.
+const NEAR: usize = 8;
 
 fn is_blank(byte: u8) -> bool
     ensures { result ≡ texts.is_blank byte }
@@ -19,13 +22,34 @@ fn blanks(line: &[u8]) -> usize
 }
 
 // How many bytes stand before the first blank.
-#[tactic(auto, using(crate::proofs::SearchLemmas::place_or_len))]
 fn word_len(line: &[u8]) -> usize
+    ensures { result ≡ position_or_len (λ b. texts.is_blank b) line.now }
+{
+    let (near, far) = line.split_at(line.len().min(NEAR));
+    let len = near_len(near);
+    if len == near.len() {
+        len + far_len(far)
+    } else {
+        len
+    }
+}
+
+// The same of a few bytes.
+#[tactic(auto, using(crate::proofs::SearchLemmas::place_or_len))]
+fn near_len(line: &[u8]) -> usize
     ensures { result ≡ position_or_len (λ b. texts.is_blank b) line.now }
 {
     line.iter()
         .position(|byte| is_blank(*byte))
         .unwrap_or(line.len())
+}
+
+// The same of many bytes.
+#[tactic(auto, using(crate::proofs::SearchLemmas::place_or_len))]
+fn far_len(line: &[u8]) -> usize
+    ensures { result ≡ position_or_len (λ b. texts.is_blank b) line.now }
+{
+    memchr2(b' ', b'\t', line).unwrap_or(line.len())
 }
 
 /// The first word of a line and what follows it, where the line has a word.
@@ -66,11 +90,11 @@ pub fn halves(word: &[u8], separator: u8) -> (&[u8], &[u8])
     (front, back)
 }
 
-/// Whether a line whose first word this is is a header, or would be one at the front of the script.
+/// Whether a line whose first word this is is a header line, or would be one at its place.
 pub fn begins_header(word: &[u8]) -> bool
     ensures { result ≡ reader.is_header word.now }
 {
-    word == b"budget".as_slice()
+    word == b"budget".as_slice() || word == b"open".as_slice()
 }
 
 /// Whether a line whose first word this is counts as a comment.

@@ -1,4 +1,4 @@
-use Rattle.script.proofs.GrammarLemmas.{script_read, script_again}
+use Rattle.script.proofs.ScriptLemmas.{script_read, script_again}
 use Rattle.script.specs.Seen.{script_seen}
 use Rattle.script.proofs.parsing.parse.Goals as goal
 
