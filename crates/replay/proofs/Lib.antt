@@ -7,8 +7,15 @@ pub mod GoingOn
 pub mod Found
 pub mod Asked
 pub mod Streams
+pub mod Turns
+pub mod Begun
+pub mod Snapshots
+pub mod Living
 pub mod Histories
 pub mod NextCalls
 pub mod LineCalls
-pub mod Turns
+pub mod SnapCalls
+pub mod ScriptLines
 pub mod Scripts
+pub mod Headers
+pub mod Ends

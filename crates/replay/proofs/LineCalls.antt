@@ -14,13 +14,14 @@ use Rattle.adb_model.specs.Plays.{next_call, Follow}
 use Rattle.script.specs.Said.{Order, order_played}
 use Rattle.script.specs.Text.{text_of, journal_of}
 use Rattle.replay.specs.Standing.{Lanes, PlayerStands}
-use Rattle.replay.specs.Playing.{event_of, PlayedCall, CutCall, PlayedLine, CutLine}
+use Rattle.replay.specs.Saved.{event_of}
+use Rattle.replay.specs.Playing.{PlayedCall, CutCall, PlayedLine, CutLine}
 use Rattle.replay.proofs.NextCalls.{FewerAbove, rest_of}
 use Rattle.replay.proofs.Streams.{appends_as, appends_nothing, front_then, front_none, front_of_more}
 
 -- ---- the journal of some events, and of one more
 
-text_alone : (e : Event) → journal_of (e ∷ []) ≡ text_of e
+pub text_alone : (e : Event) → journal_of (e ∷ []) ≡ text_of e
 text_alone e = flat_map-cons text_of e [] ∙ append-nil (text_of e)
 
 text_added : (events : List Event) (e : Event) → journal_of events ++ text_of e ≡ journal_of (events ++ e ∷ [])

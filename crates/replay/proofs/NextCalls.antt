@@ -8,8 +8,9 @@ use Rattle.adb_model.specs.State.{State, Storage}
 use Rattle.adb_model.specs.Storages.{open_flush, open_shrink}
 use Rattle.adb_model.specs.Lists.{last}
 use Rattle.adb_model.specs.Call as machine
-use Rattle.adb_model.specs.Call.{Call, Refusal, Reply, Event, NotFlushing, NotShrinking, Done, Superseded}
+use Rattle.adb_model.specs.Call.{Call, Refusal, Reply, Event, NotFlushing, NotShrinking, NotSnapping, Done, Superseded}
 use Rattle.adb_model.specs.Outcome.{unless, when_found}
+use Rattle.adb_model.specs.Snap.{open_snap}
 use Rattle.adb_model.specs.Shrink.{is_current, installed, copy_dropped}
 use Rattle.adb_model.specs.Reclaim.{keys_taken, reclaimed}
 use Rattle.adb_model.specs.Cleaning.{crowded_above}
@@ -17,10 +18,10 @@ use Rattle.adb_model.specs.Step.{step}
 use Rattle.adb_model.specs.History.{IsLegal}
 use Rattle.adb_model.specs.Plays as plays
 use Rattle.adb_model.specs.Plays.{next_call, Follow}
-use Rattle.script.specs.Said.{Order, Plain, Get, Flush, Clean, Shrink, order_played}
-use Rattle.replay.specs.Playing.{event_of}
+use Rattle.script.specs.Said.{Order, Plain, Get, Flush, Clean, Shrink, Snap, order_played}
+use Rattle.replay.specs.Saved.{event_of}
 
--- ---- no get, no flush and no shrink has a third call
+-- ---- no get, no flush, no shrink and no snapshot has a third call
 
 after_refusal : (view : View) (key : List ℕ) (o : Option Refusal) (m n : State) → next_call (plays.Get view key) (Some (unless o m (n, Done)).1) ≡ None
 after_refusal view key None m n = refl
@@ -29,6 +30,10 @@ after_refusal view key (Some r) m n = refl
 after_end : (slot : ℕ) (o : Option Storage) (m : State) (f : Storage → State) → next_call (plays.Flush slot) (Some (when_found o (NotFlushing slot) m (λ t. (f t, Done))).1) ≡ None
 after_end slot None m f = refl
 after_end slot (Some t) m f = refl
+
+after_snap : (slot : ℕ) (o : Option state.Snap) (m : State) (f : state.Snap → State) → next_call (plays.Snap slot) (Some (when_found o (NotSnapping slot) m (λ n. (f n, Done))).1) ≡ None
+after_snap slot None m f = refl
+after_snap slot (Some n) m f = refl
 
 abbrev either : Bool → State × Reply → State × Reply → State × Reply
 either b in_time late = if b then in_time else late
@@ -53,6 +58,9 @@ flush_ends slot m pass = after_end slot (open_flush m slot) m _
 
 shrink_ends : (slot : ℕ) (m : State) (pass : ℕ) → IsLast (plays.Shrink slot) m pass (machine.ShrinkEnd slot)
 shrink_ends slot m pass = after_shrink slot (open_shrink m slot) m (is_current m) (installed m) (copy_dropped m)
+
+pub snap_ends : (slot : ℕ) (m : State) (pass : ℕ) → IsLast (plays.Snap slot) m pass (machine.SnapEnd slot)
+snap_ends slot m pass = after_snap slot (open_snap m slot) m _
 
 get_second : (view : View) (key : List ℕ) (r : Reply) (call : Call) → next_call (plays.Get view key) (Some r) ≡ Some call → (m : State) (pass : ℕ) → IsLast (plays.Get view key) m pass call
 get_second view key machine.Done call e m pass = absurd cc
@@ -102,6 +110,23 @@ shrink_second slot (machine.Superseded s old) call e m pass = absurd cc
 shrink_second slot (machine.SnapBegun storages) call e m pass = absurd cc
 shrink_second slot (machine.Recycled storages) call e m pass = absurd cc
 shrink_second slot (machine.Counted counts) call e m pass = absurd cc
+
+-- the end of a snapshot follows its begin
+pub snap_second : (slot : ℕ) (r : Reply) (call : Call) → next_call (plays.Snap slot) (Some r) ≡ Some call → (n : ℕ) × (r ≡ machine.SnapBegun n) × (machine.SnapEnd slot ≡ call)
+snap_second slot machine.Done call e = absurd cc
+snap_second slot (machine.Refused refusal) call e = absurd cc
+snap_second slot (machine.Purged keys) call e = absurd cc
+snap_second slot machine.NotFound call e = absurd cc
+snap_second slot (machine.Found s place account) call e = absurd cc
+snap_second slot (machine.FlushBegun id bytes) call e = absurd cc
+snap_second slot (machine.Raised cleaned) call e = absurd cc
+snap_second slot (machine.Reclaimed k) call e = absurd cc
+snap_second slot machine.NothingLeft call e = absurd cc
+snap_second slot (machine.ShrinkBegun old new bytes) call e = absurd cc
+snap_second slot (machine.Superseded s old) call e = absurd cc
+snap_second slot (machine.SnapBegun storages) call e = (storages, refl, same_Some (machine.SnapEnd slot) call e)
+snap_second slot (machine.Recycled storages) call e = absurd cc
+snap_second slot (machine.Counted counts) call e = absurd cc
 
 -- ---- the calls of a clean
 
@@ -161,6 +186,10 @@ fewer_calls (Flush slot workers) reply call m pass told old new more is fewer =
     none_left (next_call (plays.Flush slot) (Some told)) call old new (subst (λ (r : Reply). next_call (plays.Flush slot) (Some r) ≡ None) is (flush_second slot reply call more m pass))
 fewer_calls (Shrink slot) reply call m pass told old new more is fewer =
     none_left (next_call (plays.Shrink slot) (Some told)) call old new (subst (λ (r : Reply). next_call (plays.Shrink slot) (Some r) ≡ None) is (shrink_second slot reply call more m pass))
+fewer_calls (Snap slot name) reply call m pass told old new more is fewer =
+    let end = snap_second slot reply call more in
+    let ends : IsLast (plays.Snap slot) m pass call = subst (λ (c : Call). IsLast (plays.Snap slot) m pass c) end.2 (snap_ends slot m pass) in
+    none_left (next_call (plays.Snap slot) (Some told)) call old new (subst (λ (r : Reply). next_call (plays.Snap slot) (Some r) ≡ None) is ends)
 fewer_calls (Clean upto) reply call m pass told old new more is fewer =
     let c = clean_second upto reply call more in
     let P : Call → Type 0 = λ (d : Call). (step m pass d).1 ≡ told → Fewer old new d told → calls_left new (next_call (plays.Clean upto) (Some told)) < calls_left old (Some d) in

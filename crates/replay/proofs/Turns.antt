@@ -2,20 +2,17 @@
 use Rattle.std.proofs.Common.{◌≡◌, ℕ, suc, ◌+◌, ◌<◌, ◌≤◌, List, [], ◌∷◌, ◌++◌, length, take, drop, get_or, map, Option, Result, Ok, Err, OnErr, Some, refl, sym, ap, subst, ◌∙◌, add-one, append_assoc}
 use Rattle.std.proofs.Math.Seq.{drop-cons}
 use Rattle.std.proofs.lemmas.List.{take-append-drop, take_more, map_push, take_all, append-nil}
-use Rattle.std.specs.Io.KnownBytes.{Appends}
-use Rattle.adb_model.specs.State.{State, fresh}
+use Rattle.adb_model.specs.State.{State}
 use Rattle.adb_model.specs.Call as machine
 use Rattle.adb_model.specs.Seen.{call_of, reply_of}
 use Rattle.adb_model.specs.declared.call.Call.{Call}
 use Rattle.adb_model.specs.declared.call.Reply.{Reply}
 use Rattle.script.specs.declared.line.Line as code
-use Rattle.stream_io.specs.Stream.{AppendsFront}
-use Rattle.script.specs.Said.{Said, header_of, budget_of}
+use Rattle.dir_io.specs.Files.{Files}
 use Rattle.script.specs.Seen.{line_seen}
 use Rattle.book_parts.specs.Stands.{with_event}
 use Rattle.replay.specs.Standing.{Lanes, PlayerStands, asked, HasMade, HasMadeFirst}
-use Rattle.replay.specs.Journaled.{PlayedInPart, CutShort}
-use Rattle.replay.specs.Playing.{HasPlayed}
+use Rattle.replay.specs.Journaled.{PlayedInPart, CutLater}
 
 take_one : {X : Type 0} (xs : List X) (i : ℕ) (x : X) → i < length xs → x ≡ get_or xs i x → take (i + 1) xs ≡ take i xs ++ x ∷ []
 take_one xs i x lt is = take_more xs i x lt ∙ ap (λ (y : _). take i xs ++ y ∷ []) (sym is)
@@ -25,7 +22,7 @@ split_here xs i x lt is =
     let rest : drop i xs ≡ x ∷ drop (i + 1) xs = rw add-one (drop-cons xs i x lt ∙ ap (λ (y : _). y ∷ drop (suc i) xs) (sym is)) in
     sym (take-append-drop i xs) ∙ ap (λ (l : List _). take i xs ++ l) rest
 
-map_over : {X Y : Type 0} (f : X → Y) (xs ys : List X) → map f (xs ++ ys) ≡ map f xs ++ map f ys
+pub map_over : {X Y : Type 0} (f : X → Y) (xs ys : List X) → map f (xs ++ ys) ≡ map f xs ++ map f ys
 map_over f [] ys = refl
 map_over f (x ∷ xs) ys = ap (λ (l : List _). f x ∷ l) (map_over f xs ys)
 
@@ -43,30 +40,13 @@ module _ {X Y : Type 0} (f : X → Y) (xs : List X) (i : ℕ) (x : X) where
 -- ---- lines
 
 -- the line at hand was played in part
-pub cut_short : (a c : Option (List ℕ)) (budget : Option ℕ) (xs : List code.Line) (i : ℕ) (x : code.Line) → i < length xs → x ≡ get_or xs i x
-    → PlayedInPart a c (record { budget = budget; lines = map line_seen (take i xs) ++ line_seen x ∷ [] }) → CutShort a c (record { budget = budget; lines = map line_seen xs })
-cut_short a c budget xs i x lt is part = record {
+pub cut_short : (f h : Option Files) (a c : Option (List ℕ)) (budget : Option ℕ) (opened : Option (List ℕ)) (xs : List code.Line) (i : ℕ) (x : code.Line) → i < length xs → x ≡ get_or xs i x
+    → PlayedInPart f h a c (record { budget = budget; opened = opened; lines = map line_seen (take i xs) ++ line_seen x ∷ [] }) → CutLater f h a c (record { budget = budget; opened = opened; lines = map line_seen xs })
+cut_short f h a c budget opened xs i x lt is part = record {
   first = map line_seen (take i xs) ++ line_seen x ∷ [];
   rest = map line_seen (drop (i + 1) xs);
   split = mapped_split line_seen xs i x lt is;
   part = part;
-}
-
--- no line was played, and the sink took some of the front of the header
-pub nothing_played : (a c : Option (List ℕ)) (said : Said) → AppendsFront a c (header_of said.budget) → CutShort a c said
-nothing_played a c said front = record {
-  first = [];
-  rest = said.lines;
-  split = refl;
-  part = record { history = []; legal = tt; plays = refl; front = subst (λ (t : List ℕ). AppendsFront a c t) (sym (append-nil (header_of said.budget))) front };
-}
-
--- the header's line was written, and no line is played yet
-pub none_yet : (a b : Option (List ℕ)) (budget : Option ℕ) (p : Lanes) (most : ℕ) (header : List ℕ) → most ≡ budget_of budget → header ≡ header_of budget → Appends a b header
-    → PlayerStands p (fresh most 1) [] → HasPlayed p a b (record { budget = budget; lines = [] })
-none_yet a b budget p most header same is written st = record {
-  done = record { history = []; legal = tt; plays = refl; whole = subst (λ (t : List ℕ). Appends a b t) (is ∙ sym (append-nil (header_of budget))) written };
-  stands = subst (λ (n : ℕ). PlayerStands p (fresh n 1) []) same st;
 }
 
 -- ---- calls

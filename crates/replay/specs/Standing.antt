@@ -1,14 +1,16 @@
 -- What a player stands for: a history of its book, the pins of its lanes, and the flushes, shrinks and the snapshot that it has begun.
-use Rattle.std.specs.Prelude.{◌≡◌, ℕ, ◌+◌, ◌<◌, ◌≤◌, ◌==◌, Bool, List, [], ◌++◌, length, map, find, count_by, Option, Some, None, option_map, Result, Ok, Err, IsFalse, All, slice_get}
+use Rattle.std.specs.Prelude.{◌≡◌, ℕ, ◌+◌, ◌<◌, ◌≤◌, ◌==◌, Bool, List, [], ◌++◌, length, map, find, count_by, Option, Some, None, option_map, Result, Ok, Err, IsFalse, IsSomeAnd, All, slice_get}
 use Rattle.std.specs.declared.alloc.AllocError.{AllocError}
 use Rattle.adb_model.specs.State.{State}
 use Rattle.adb_model.specs.Storages.{is_filling, open_flush, open_shrink}
 use Rattle.adb_model.specs.Call as machine
 use Rattle.adb_model.specs.History.{state_after}
+use Rattle.adb_model.specs.Laws.{ShowLive}
 use Rattle.adb_model.specs.Seen.{call_of, reply_of}
 use Rattle.adb_model.specs.declared.call.Call.{Call}
 use Rattle.adb_model.specs.declared.call.Reply.{Reply}
 use Rattle.accounts_index.specs.Index.{crowded_after}
+use Rattle.vec_scan.specs.Shown.{shown}
 use Rattle.pass_pins.specs.Pins.{Pins}
 use Rattle.book_parts.specs.Parts.{Parts}
 use Rattle.book_parts.specs.Pins.{HoldsPins}
@@ -30,6 +32,11 @@ IsOfFewKeys call = Unit {0}
 abbrev pub FewerLeft : machine.Call → machine.Reply → Parts → Parts → Type 0
 FewerLeft call reply old new = (after : Option (List ℕ)) (most : ℕ) (key : List ℕ) → call ≡ machine.Reclaim after most → reply ≡ machine.Reclaimed key
     → length (crowded_after new.index (Some key)) < length (crowded_after old.index after)
+
+-- where a snapshot began, the one in hand is of its slot and has the images of the storages that are in use up to it
+abbrev pub ShowsLive : machine.Call → machine.Reply → State → Option Snapshot → Type 0
+ShowsLive call reply m snap = (slot storages : ℕ) → call ≡ machine.SnapBegin slot → reply ≡ machine.SnapBegun storages
+    → IsSomeAnd snap (λ job. (job.slot ≡ slot) × ShowLive m slot (map shown job.storages))
 
 -- what contracts see of a player: its book, the pins of lane 1, of lane 2, and so on, and the flushes, the shrinks and the snapshot in hand
 pub record Lanes : Type 0 where

@@ -1,10 +1,12 @@
-ghost use Rattle.std.specs.Prelude.{◌≤◌, ℕ, List, All, IfOk, OnErr, map};
+ghost use Rattle.std.specs.Prelude.{◌≤◌, ℕ, List, All, IfOk, IfSome, IsSome, OnErr, map};
 ghost use Rattle.adb_model.specs.State.{State};
 ghost use Rattle.adb_model.specs.Call as machine;
 ghost use Rattle.adb_model.specs.History.{state_after};
 ghost use Rattle.adb_model.specs.Seen.{call_of, reply_of};
 ghost use Rattle.book_parts.specs.Stands.{Stands, with_event};
-ghost use Rattle.replay.specs.Standing.{IsLane, IsOfFewKeys, IsQuiet, PlayerStands, HasHistory, HaveNoPins, HasMade, HasMadeFirst, FewerLeft, asked, told};
+ghost use Rattle.replay.specs.Standing.{IsLane, IsOfFewKeys, IsQuiet, PlayerStands, HasHistory, HaveNoPins, HasMade, HasMadeFirst, FewerLeft, ShowsLive, asked, told};
+ghost use Rattle.snap_write.specs.Faults.{HasSnapCause};
+ghost use Rattle.replay.specs.Saved.{Writes};
 
 use crate::laws::lanes_go_on;
 use crate::passes::{load, unpin};
@@ -12,9 +14,11 @@ use crate::replies::{lease_ended, leased, purged, raised, reclaimed, rooted, sto
 use crate::{flushes, shrinking, snapping};
 use adb_model::{Call, Reply};
 use book::{Book, SnapJob};
+use dir_io::Dir;
 use flush_plan::FlushJob;
 use pass_pins::PassPins;
 use shrink_plan::ShrinkJob;
+use snap_write::SnapFault;
 use std::alloc::{AllocError, Global};
 use std::marker::Model;
 
@@ -65,6 +69,8 @@ fn step_filled<R: AllocGlobal>(
     ensures stands { (start : State) (h : List machine.Event) → PlayerStands (record { book = book.old; pins = pins.old.items; jobs = jobs.old.items; shrinks = shrinks.old.items; snap = snap.old }) start h
         → PlayerStands (record { book = book.new; pins = pins.new.items; jobs = jobs.new.items; shrinks = shrinks.new.items; snap = snap.new }) start (with_event h lane (call_of call.now) (told result)) }
     ensures fewer { IfOk result (λ reply. FewerLeft (call_of call.now) (reply_of reply) book.old book.new) }
+    ensures shows { (start : State) (h : List machine.Event) → PlayerStands (record { book = book.old; pins = pins.old.items; jobs = jobs.old.items; shrinks = shrinks.old.items; snap = snap.old }) start h
+        → IfOk result (λ reply. ShowsLive (call_of call.now) (reply_of reply) (state_after start h) snap.new) }
 {
     lanes_go_on();
     match call {
@@ -151,6 +157,8 @@ impl Player {
         ensures stands { (start : State) (history : List machine.Event) → PlayerStands self.old start history
             → PlayerStands self.new start (with_event history lane (call_of call.now) (told result)) }
         ensures fewer { IfOk result (λ reply. FewerLeft (call_of call.now) (reply_of reply) self.old.book self.new.book) }
+        ensures shows { (start : State) (history : List machine.Event) → PlayerStands self.old start history
+            → IfOk result (λ reply. ShowsLive (call_of call.now) (reply_of reply) (state_after start history) self.new.snap) }
     {
         step_filled(
             rt,
@@ -163,6 +171,20 @@ impl Player {
             call,
             workers,
         )
+    }
+
+    /// Writes the snapshot in hand to a directory, under a name. It is no event.
+    pub(crate) fn write_snapshot<D: Dir>(
+        &self,
+        alloc: Global,
+        name: &str,
+        dir: &mut D,
+    ) -> Result<(), SnapFault>
+        requires { IsSome self.now.snap }
+        ensures written { IfSome self.now.snap (λ job. Writes job name.now (D.files dir.old) (D.files dir.new) result) }
+        ensures cause { HasSnapCause (D.faults dir.old) (D.faults dir.new) result }
+    {
+        snapping::write(alloc, &self.snap, name, dir)
     }
 
     /// Makes the events of calls, each of a lane, in order, and gives their replies. After want of memory some of

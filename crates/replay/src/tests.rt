@@ -5,6 +5,7 @@ ghost use Rattle.replay.specs.Standing.{IsOfFewKeys};
 use crate::{Player, run_replay};
 use adb_model::{Account, Call, Key, Refusal, Reply, Slot, View, plain_answer};
 use book::Book;
+use dir_io::MemDir;
 use script::parse;
 use std::alloc::Global;
 use std::sync::Arc;
@@ -273,14 +274,26 @@ fn a_player_runs_calls_of_several_lanes(rt: HostRuntime) -> Result<(), Fail> {
     Ok(())
 }
 
-// The status and the journal of a script.
+// The status and the journal of a script over an empty directory.
 pub fn journal(rt: &HostRuntime, text: &str) -> Result<(u8, Vec<u8>), Fail> {
+    let alloc = rt.alloc();
+    let mut dir = MemDir::new(Vec::new(alloc), Vec::new(alloc));
+    journal_over(rt, text, &mut dir, &[])
+}
+
+// The same over this directory, where these calls of the sink fail.
+pub fn journal_over(
+    rt: &HostRuntime,
+    text: &str,
+    dir: &mut MemDir,
+    failing: &[u64],
+) -> Result<(u8, Vec<u8>), Fail> {
     let alloc = rt.alloc();
     let Ok(script) = parse(alloc, text.as_bytes()) else {
         return Err("no script")?;
     };
-    let mut sink = MemSink::new(alloc, 100_000, Vec::new(alloc))?;
-    let status = run_replay(rt, &script, &mut sink);
+    let mut sink = MemSink::new(alloc, 100_000, failing.to_vec(alloc)?)?;
+    let status = run_replay(rt, &script, &mut sink, dir);
     Ok((status, sink.bytes().to_vec(alloc)?))
 }
 

@@ -12,6 +12,8 @@ use Rattle.book_parts.specs.Shrinks.{Copy}
 use Rattle.book_parts.specs.Snaps.{Snapshot}
 use Rattle.replay.specs.Standing.{Lanes, told}
 use Rattle.replay.proofs.Asked.{as_asked, key_lent}
+use Rattle.adb_model.specs.History.{state_after}
+use Rattle.replay.proofs.Snaps.{shown_as}
 use Rattle.replay.proofs.player.step_filled.Goals as goal
 
 abbrev lanes : Parts → List Pins → List Job → List Copy → Option Snapshot → Lanes
@@ -118,7 +120,7 @@ returns-in-Recycle-clause-stands g c start h st =
 pub returns-in-SnapBegin-clause-stands : goal.returns-in-SnapBegin-clause-stands
 returns-in-SnapBegin-clause-stands g c start h st =
     as_asked _ start h c.args.lane (machine.SnapBegin c.in-SnapBegin.slot) (call_of c.args.call.now) (told c.begin-in-SnapBegin.result) (told c.begin-in-SnapBegin.result) (ap call_of c.in-SnapBegin.is) refl
-    (c.begin-in-SnapBegin.ensures (lanes c.args.book.now c.args.pins.now.items c.args.jobs.now.items c.args.shrinks.now.items c.args.snap.now) start h c.args.lane c.requires.lane st)
+    (c.begin-in-SnapBegin.ensures.stands (lanes c.args.book.now c.args.pins.now.items c.args.jobs.now.items c.args.shrinks.now.items c.args.snap.now) start h c.args.lane c.requires.lane st)
 
 pub returns-in-SnapEnd-clause-stands : goal.returns-in-SnapEnd-clause-stands
 returns-in-SnapEnd-clause-stands g c start h st =
@@ -145,3 +147,8 @@ abort-requires-in-ShrinkAbort g c = (lanes c.args.book.now c.args.pins.now.items
 
 pub end-requires-in-SnapEnd : goal.end-requires-in-SnapEnd
 end-requires-in-SnapEnd g c = (lanes c.args.book.now c.args.pins.now.items c.args.jobs.now.items c.args.shrinks.now.items c.args.snap.now, c.requires.some)
+
+pub returns-in-SnapBegin-clause-shows : goal.returns-in-SnapBegin-clause-shows
+returns-in-SnapBegin-clause-shows g c start h st =
+    shown_as c.begin-in-SnapBegin.result (machine.SnapBegin c.in-SnapBegin.slot) (call_of c.args.call.now) (state_after start h) c.begin-in-SnapBegin.new.snap (ap call_of c.in-SnapBegin.is)
+    (c.begin-in-SnapBegin.ensures.shows (lanes c.args.book.now c.args.pins.now.items c.args.jobs.now.items c.args.shrinks.now.items c.args.snap.now) start h st)

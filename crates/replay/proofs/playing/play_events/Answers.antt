@@ -5,7 +5,7 @@ use Rattle.script.specs.Said.{order_played}
 use Rattle.script.specs.Seen.{order_seen}
 use Rattle.replay.proofs.LineCalls.{nothing_yet, one_cut, not_told}
 use Rattle.replay.proofs.Turns.{always}
-use Rattle.replay.proofs.playing.play_line.Goals as goal
+use Rattle.replay.proofs.playing.play_events.Goals as goal
 
 pub returns-in_err-view-in-Get-clause-err : goal.returns-in_err-view-in-Get-clause-err
 returns-in_err-view-in-Get-clause-err g c start h st =
