@@ -1,8 +1,11 @@
 //! The program `adb`.
 #![tactic(auto)]
 
+mod ending;
+mod opening;
 mod running;
 
+use dir_io::FolderDir;
 use std::env;
 use std::io::{self, BufReader, BufWriter, ErrorKind};
 use std::process::ExitCode;
@@ -33,7 +36,8 @@ fn run(rt: &HostRuntime) -> io::Result<u8> {
     let mut source = StdSource::new(BufReader::new(rt.alloc(), rt.reader())?);
     let output = BufWriter::with_capacity(rt.alloc(), OUTPUT_BUFFER, io::writer(rt))?;
     let mut sink = StdSink::new(output);
-    Ok(running::run(rt, &words, &mut source, &mut sink))
+    let mut dir = FolderDir::new(rt, "")?;
+    Ok(running::run(rt, &words, &mut source, &mut sink, &mut dir))
 }
 
 fn main(rt: HostRuntime) -> ExitCode {

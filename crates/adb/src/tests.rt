@@ -1,6 +1,7 @@
 ghost use Rattle.std.specs.Prelude.{None};
 
 use crate::running::run;
+use dir_io::MemDir;
 use std::test::Fail;
 use stream_io::{Failed, MemSink, MemSource, Sink, Source};
 
@@ -23,12 +24,13 @@ impl Source for Comment {
     }
 }
 
-// What a run of the words wrote, and its status.
-fn ran<S: Source>(
+// What a run of the words over a directory wrote, and its status.
+fn ran_over<S: Source>(
     rt: &HostRuntime,
     words: &[&str],
     source: &mut S,
     sink_fails: &[u64],
+    dir: &mut MemDir,
 ) -> Result<(u8, Vec<u8>), Fail> {
     let alloc = rt.alloc();
     let mut texts = Vec::new(alloc);
@@ -36,8 +38,20 @@ fn ran<S: Source>(
         texts.push(String::from_str(alloc, word)?)?;
     }
     let mut sink = MemSink::new(alloc, 10_000, sink_fails.to_vec(alloc)?)?;
-    let status = run(rt, &texts, source, &mut sink);
+    let status = run(rt, &texts, source, &mut sink, dir);
     Ok((status, sink.bytes().to_vec(alloc)?))
+}
+
+// The same over a directory without files.
+fn ran<S: Source>(
+    rt: &HostRuntime,
+    words: &[&str],
+    source: &mut S,
+    sink_fails: &[u64],
+) -> Result<(u8, Vec<u8>), Fail> {
+    let alloc = rt.alloc();
+    let mut dir = MemDir::new(Vec::new(alloc), Vec::new(alloc));
+    ran_over(rt, words, source, sink_fails, &mut dir)
 }
 
 // The same of `replay` over a script, with calls of the source and the sink that fail.
@@ -193,19 +207,25 @@ fn what_is_no_script_is_refused_whole(rt: HostRuntime) -> Result<(), Fail> {
 
 #[test]
 fn other_words_are_told_the_usage(rt: HostRuntime) -> Result<(), Fail> {
-    let table: [&[&str]; 6] = [
+    let table: [&[&str]; 9] = [
         &[],
         &["replay", "x"],
         &["make", "101"],
         &["Replay"],
         &[""],
         &["replay "],
+        &["open"],
+        &["open", "-s"],
+        &["open", "s", "s"],
     ];
     for words in table {
         let mut source = Comment { left: 1 };
         let (status, wrote) = ran(&rt, words, &mut source, &[])?;
         assert_eq!(rt; status, 1);
-        assert_eq!(rt; wrote.as_slice(), "adb: usage: adb replay\n".as_bytes());
+        assert_eq!(rt;
+            wrote.as_slice(),
+            "adb: usage: adb replay | open NAME\n".as_bytes()
+        );
         assert_eq!(rt; source.left, 1, "nothing is read");
     }
     Ok(())
@@ -273,5 +293,70 @@ fn one_bad_word_at_the_end_refuses_all(rt: HostRuntime) -> Result<(), Fail> {
     let (status, wrote) = ran(&rt, &["replay"], &mut source, &[])?;
     assert_eq!(rt; status, 2);
     assert_eq!(rt; wrote.as_slice(), "script: refused\n".as_bytes());
+    Ok(())
+}
+
+const SNAP: &str = "1 store 5 01 1\n1 root 5\n1 flush 5\n1 snap 5 s1\n1 root 6\n";
+
+const SNAP_BEGUN: &str =
+    "1 store 5 01 1 00 0 0 - = ok\n1 root 5 = ok\n1 flush-begin 5 = ok 1 136\n1 flush-end 5 = ok\n1 snap-begin 5 = ok 1\n1 snap-end 5 = ok\n";
+
+#[test]
+fn a_snapshot_that_is_not_written_gives_its_status(rt: HostRuntime) -> Result<(), Fail> {
+    let alloc = rt.alloc();
+    let mut there = Vec::new(alloc);
+    there.push((String::from_str(alloc, "s1/version")?, Vec::new(alloc)))?;
+    let mut failing = Vec::new(alloc);
+    failing.push(0)?;
+    let table = [
+        (Vec::new(alloc), failing, 5, "adb: directory fault\n"),
+        (there, Vec::new(alloc), 7, "snapshot s1 exists\n"),
+    ];
+    for (files, failing, wanted, line) in table {
+        let mut source = MemSource::new(SNAP.as_bytes().to_vec(alloc)?, Vec::new(alloc));
+        let mut dir = MemDir::new(files, failing);
+        let (status, wrote) = ran_over(&rt, &["replay"], &mut source, &[], &mut dir)?;
+        assert_eq!(rt; status, wanted);
+        let due = format!(in alloc; "{SNAP_BEGUN}{line}")?;
+        assert_eq!(rt; wrote.as_slice(), due.as_bytes());
+    }
+    Ok(())
+}
+
+// The status of `open s1` over a directory without files, whose calls of these numbers fail, and what it wrote.
+fn opened_nothing(rt: &HostRuntime, failing: &[u64]) -> Result<(u8, Vec<u8>), Fail> {
+    let alloc = rt.alloc();
+    let mut dir = MemDir::new(Vec::new(alloc), failing.to_vec(alloc)?);
+    ran_over(rt, &["open", "s1"], &mut Comment { left: 1 }, &[], &mut dir)
+}
+
+#[test]
+fn a_snapshot_that_is_not_opened_gives_its_status(rt: HostRuntime) -> Result<(), Fail> {
+    let (status, wrote) = opened_nothing(&rt, &[0])?;
+    assert_eq!(rt; status, 5);
+    assert_eq!(rt; wrote.as_slice(), "adb: directory fault\n".as_bytes());
+    let (status, wrote) = opened_nothing(&rt, &[])?;
+    assert_eq!(rt; status, 7);
+    assert_eq!(rt; wrote.as_slice(), "open s1 = no-version\n".as_bytes());
+    Ok(())
+}
+
+const TWO_ACCOUNTS: &str =
+    "1 store 5 02 7 aa 1 3 ff\n1 store 5 01 100\n1 store 5 03 1\n1 store 5 03 0\n1 root 5\n1 flush 5\n1 snap 5 s1\n";
+
+#[test]
+fn a_snapshot_is_listed_by_key(rt: HostRuntime) -> Result<(), Fail> {
+    let alloc = rt.alloc();
+    let mut dir = MemDir::new(Vec::new(alloc), Vec::new(alloc));
+    let mut source = MemSource::new(TWO_ACCOUNTS.as_bytes().to_vec(alloc)?, Vec::new(alloc));
+    let (status, _) = ran_over(&rt, &["replay"], &mut source, &[], &mut dir)?;
+    assert_eq!(rt; status, 0);
+    let words = ["open", "s1"];
+    let (status, wrote) = ran_over(&rt, &words, &mut Comment { left: 1 }, &[], &mut dir)?;
+    assert_eq!(rt; status, 0);
+    assert_eq!(rt;
+        wrote.as_slice(),
+        "open s1 = ok 5\n01 5 100 00 0 0 -\n02 5 7 aa 1 3 ff\n".as_bytes()
+    );
     Ok(())
 }
