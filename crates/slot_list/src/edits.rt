@@ -1,7 +1,7 @@
-ghost use Rattle.std.specs.Prelude.{◌≡◌, ◌+◌, ◌<◌, ◌≤◌, if◌then◌else◌, OnOk, OnErr, IsOk, IsSome, is_some, length, vec_len};
-ghost use Rattle.std.specs.Vec.{vec_capacity};
+ghost use Rattle.std.specs.Prelude.{◌≡◌, ◌+◌, ◌≤◌, if◌then◌else◌, OnOk, OnErr, IsOk, IsSome, is_some, length};
 ghost use Rattle.std.specs.List.{insert};
 ghost use Rattle.std.specs.List.Sorted.{IsStrictlyIncreasing};
+ghost use Rattle.smallvec.specs.SmallVec.{small_vec_len, HasRoomFor};
 ghost use Rattle.view_sets.specs.Slots.{among};
 ghost use Rattle.slot_list.specs.Versions.{at, put, without, rehomed, with_slot, without_slot, VersionsRise};
 
@@ -75,16 +75,16 @@ pub fn rehome_version(versions: &mut SmallVec<Version, 2>, slot: u64, place: Pla
 }
 
 /// Puts a slot at its place, for which there is room, and says whether it was there already.
-pub fn put_slot(slots: &mut Vec<u64>, slot: u64) -> bool
-    requires room { vec_len slots.old < vec_capacity slots.old }
+pub fn put_slot(slots: &mut SmallVec<u64, 1>, slot: u64) -> bool
+    requires room { HasRoomFor slots.old 1 }
     requires rise { IsStrictlyIncreasing slots.old.items }
     ensures there { result ≡ among slot slots.old.items }
     ensures rise { IsStrictlyIncreasing slots.new.items }
     ensures items { slots.new.items ≡ with_slot slot slots.old.items }
-    ensures len { vec_len slots.new ≡ (if result then vec_len slots.old else vec_len slots.old + 1) }
-    ensures capacity { vec_capacity slots.new ≡ vec_capacity slots.old }
+    ensures len { small_vec_len slots.new ≡ (if result then small_vec_len slots.old else small_vec_len slots.old + 1) }
+    ensures capacity { slots.new.capacity ≡ slots.old.capacity }
 {
-    match place_of_slot(slots, slot) {
+    match place_of_slot(slots.as_slice(), slot) {
         Ok(_) => true,
         Err(place) => {
             let _ = slots.insert(place, slot);
@@ -94,15 +94,15 @@ pub fn put_slot(slots: &mut Vec<u64>, slot: u64) -> bool
 }
 
 /// Takes a slot out, and says whether it was there.
-pub fn take_slot(slots: &mut Vec<u64>, slot: u64) -> bool
+pub fn take_slot(slots: &mut SmallVec<u64, 1>, slot: u64) -> bool
     requires { IsStrictlyIncreasing slots.old.items }
     ensures rise { IsStrictlyIncreasing slots.new.items }
     ensures there { result ≡ among slot slots.old.items }
     ensures items { slots.new.items ≡ without_slot slot slots.old.items }
-    ensures len { vec_len slots.new ≤ vec_len slots.old }
-    ensures capacity { vec_capacity slots.new ≡ vec_capacity slots.old }
+    ensures len { small_vec_len slots.new ≤ small_vec_len slots.old }
+    ensures capacity { slots.new.capacity ≡ slots.old.capacity }
 {
-    match place_of_slot(slots, slot) {
+    match place_of_slot(slots.as_slice(), slot) {
         Ok(place) => {
             let _ = slots.remove(place);
             true

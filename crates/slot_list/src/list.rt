@@ -17,12 +17,13 @@ use view_sets::RootSet;
 pub struct SlotList {
     /// The first two stand in the list itself: most keys have one, and one more between a store and the next clean.
     versions: SmallVec<Version, 2>,
-    held: Vec<u64>,
+    /// The first stands in the list itself: most keys are held in one slot.
+    held: SmallVec<u64, 1>,
 }
 
 impl Model for SlotList {
-    ghost use Rattle.std.specs.Prelude.{◌-◌, vec_len};
-    ghost use Rattle.std.specs.Vec.{vec_capacity};
+    ghost use Rattle.std.specs.Prelude.{◌-◌};
+    ghost use Rattle.smallvec.specs.SmallVec.{small_vec_len};
     ghost use Rattle.std.specs.List.Sorted.{IsStrictlyIncreasing};
     ghost use Rattle.slot_list.specs.Versions.{KeySlots, VersionsRise};
 
@@ -31,7 +32,7 @@ impl Model for SlotList {
     ghost view = { λ s. record {
       versions = s.versions.items;
       held = s.held.items;
-      spare = vec_capacity s.held - vec_len s.held;
+      spare = s.held.capacity - small_vec_len s.held;
     } };
 
     ghost invariant = { λ s. VersionsRise s.versions.items × IsStrictlyIncreasing s.held.items };
@@ -45,7 +46,7 @@ impl SlotList {
     {
         SlotList {
             versions: SmallVec::new(alloc),
-            held: Vec::new(alloc),
+            held: SmallVec::new(alloc),
         }
     }
 
@@ -62,7 +63,7 @@ impl SlotList {
         ensures all { result.now ≡ self.now.held }
         ensures rise { IsStrictlyIncreasing result.now }
     {
-        &self.held
+        self.held.as_slice()
     }
 
     /// The version of a slot.
