@@ -12,8 +12,8 @@ use slot_list::{Place, SlotList, Version};
 use smallvec::SmallVec;
 use std::alloc::{AllocError, Global};
 
-/// Up to so many entries a bin takes the memory of one more alone, since most bins stay small.
-const FEW: usize = 4;
+/// Below so many entries a bin grows by one or two at a time, since most bins stay small.
+const FEW: usize = 8;
 
 /// Puts a version in, in place of the one that the key has in its slot.
 pub fn upsert(
@@ -71,12 +71,12 @@ fn drop_unused(entries: &mut Vec<Entry>, place: usize)
     }
 }
 
-/// Makes room for one entry more.
+/// Makes room for one entry more: for the first alone, and then for two at once.
 fn make_room(entries: &mut Vec<Entry>) -> Result<(), AllocError>
     ensures { entries.new.items ≡ entries.old.items }
 {
-    if entries.len() < FEW {
-        entries.reserve_exact(1)?;
+    if entries.len() < FEW && entries.len() == entries.capacity() {
+        entries.reserve_exact(entries.len().clamp(1, 2))?;
     }
     Ok(())
 }
