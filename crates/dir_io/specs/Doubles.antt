@@ -1,5 +1,5 @@
 -- What contracts see of a directory in memory, which fails at listed calls, and of one over a folder.
-use Rattle.std.specs.Prelude.{ℕ, List}
+use Rattle.std.specs.Prelude.{ℕ, Bool, List}
 use Rattle.std.specs.declared.result.Result.{Result}
 use Rattle.stream_io.specs.Stream.{raised}
 use Rattle.stream_io.specs.Doubles.{Calls}
@@ -7,10 +7,11 @@ use Rattle.dir_io.specs.declared.fault.DirError.{DirError}
 use Rattle.dir_io.specs.Files.{Files}
 use Rattle.dir_io.specs.Faults.{faults_then}
 
--- a directory in memory: its files and its calls
+-- a directory in memory: its files, its calls, and whether all that was written is synced
 pub record DirState : Type 0 where
   pub files : Files
   pub calls : Calls
+  pub synced : Bool
 
 -- after one more call, which answered this
 abbrev pub called : {T : Type 0} → Calls → Result T DirError → Calls
@@ -20,7 +21,8 @@ called calls result = record {
   faults = faults_then calls.faults result;
 }
 
--- a directory over a folder: the folder's path, and how often it failed
+-- a directory over a folder: the folder's path, how often it failed, and whether all that was written is synced
 pub record FolderState : Type 0 where
   pub path : List ℕ
   pub faults : ℕ
+  pub synced : Bool

@@ -1,5 +1,5 @@
 // Files below a folder of the system.
-ghost use Rattle.std.specs.Prelude.{◌≢◌, ◌≤◌, length, IfOk, IfErr};
+ghost use Rattle.std.specs.Prelude.{◌≢◌, ◌<◌, ◌≤◌, length, IfOk, IfErr, OnOk};
 ghost use Rattle.dir_io.specs.declared.fault.DirError.TheVariants.{Missing};
 
 use crate::DirError;
@@ -139,7 +139,9 @@ pub(crate) fn write<R: Files + AllocGlobal>(
     bytes: &[u8],
     written: &mut BTreeSet<String>,
 ) -> Result<(), DirError>
-    ensures { IfErr result (λ error. error ≢ Missing) }
+    ensures never_missing { IfErr result (λ error. error ≢ Missing) }
+    ensures more { length written.old.keys ≤ length written.new.keys }
+    ensures noted { OnOk result (0 < length written.new.keys) }
 {
     if !is_proper(name) {
         return Err(DirError::Failed);
@@ -158,7 +160,8 @@ fn make_way<R: Files + AllocGlobal>(
     name: &str,
     written: &mut BTreeSet<String>,
 ) -> Result<String, DirError>
-    ensures { IfErr result (λ error. error ≢ Missing) }
+    ensures never_missing { IfErr result (λ error. error ≢ Missing) }
+    ensures more { length written.old.keys ≤ length written.new.keys }
 {
     let mut path = String::from_str(rt.alloc(), base)?;
     let mut is_first = true;
@@ -193,7 +196,9 @@ fn write_file(
     bytes: &[u8],
     written: &mut BTreeSet<String>,
 ) -> Result<(), DirError>
-    ensures { IfErr result (λ error. error ≢ Missing) }
+    ensures never_missing { IfErr result (λ error. error ≢ Missing) }
+    ensures more { length written.old.keys ≤ length written.new.keys }
+    ensures noted { OnOk result (0 < length written.new.keys) }
 {
     let mut file = match fs::create(rt, &path) {
         Ok(file) => file,
@@ -206,7 +211,9 @@ fn write_file(
     }
 }
 
-fn note(path: &String, written: &mut BTreeSet<String>) -> Result<(), AllocError> {
+fn note(path: &String, written: &mut BTreeSet<String>) -> Result<(), AllocError>
+    ensures { length written.old.keys ≤ length written.new.keys }
+{
     if !written.contains(path) {
         written.insert(path.clone()?)?;
     }

@@ -1,8 +1,9 @@
 // A folder of the system as a directory.
-ghost use Rattle.std.specs.Prelude.{◌≡◌, ◌≢◌, false, [], None, IfOk, OnErr, IsErrOf};
+ghost use Rattle.std.specs.Prelude.{◌≡◌, ◌≢◌, true, false, [], None, is_ok, IfOk, OnOk, OnErr, IsErrOf, IsTrue};
 ghost use Rattle.std.specs.Io.{ReadsAtMost};
 ghost use Rattle.dir_io.specs.Files.{texts, IsListing};
 ghost use Rattle.dir_io.specs.Faults.{HasCause, is_missing, faults_then};
+ghost use Rattle.dir_io.specs.Kept.{is_synced};
 
 use crate::{Dir, DirError, folder, listing};
 use std::alloc::AllocError;
@@ -12,7 +13,8 @@ use std::rt::Files;
 
 /// A folder of the system as a directory, which tells nothing of its files.
 ///
-/// A name is a path below the folder, with `/` between its parts. What the system refuses is a fault.
+/// A name is a path below the folder, with `/` between its parts. What the system refuses is a fault. It keeps which files
+/// and folders were written and aren't synced: all is synced where none is left and no sync failed.
 #[derive(Drop)]
 pub struct FolderDir<R: Files + AllocGlobal + Clone + Drop> {
     rt: R,
@@ -25,10 +27,11 @@ pub struct FolderDir<R: Files + AllocGlobal + Clone + Drop> {
 impl<R: Files + AllocGlobal + Clone + Drop> Model for FolderDir<R> {
     ghost use Rattle.std.specs.Prelude.{string_bytes};
     ghost use Rattle.dir_io.specs.Doubles.{FolderState};
+    ghost use Rattle.dir_io.specs.Kept.{is_synced};
 
     ghost Value = { FolderState };
 
-    ghost view = { λ d. record { path = string_bytes d.path; faults = d.faults } };
+    ghost view = { λ d. record { path = string_bytes d.path; faults = d.faults; synced = is_synced d.written d.is_lost } };
 }
 
 impl<R: Files + AllocGlobal + Clone + Drop> FolderDir<R> {
@@ -36,6 +39,7 @@ impl<R: Files + AllocGlobal + Clone + Drop> FolderDir<R> {
     pub fn new(rt: &R, path: &str) -> Result<FolderDir<R>, AllocError>
         ensures path { path.now ≢ [] → IfOk result (λ dir. dir.path ≡ path.now) }
         ensures faults { IfOk result (λ dir. dir.faults ≡ 0) }
+        ensures synced { IfOk result (λ dir. dir.synced ≡ true) }
     {
         let path = if path.is_empty() { "." } else { path };
         Ok(FolderDir {
@@ -53,12 +57,15 @@ impl<R: Files + AllocGlobal + Clone + Drop> Dir for FolderDir<R> {
 
     ghost faults = { λ d. d.faults };
 
+    ghost synced = { λ d. d.synced };
+
     fn list(&mut self, prefix: &str) -> Result<Vec<String>, DirError>
         ensures names { IfOk result (λ names. IsListing None prefix.now (texts names.items)) }
         ensures never_missing { is_missing result ≡ false }
         ensures cause { HasCause self.old.faults self.new.faults result }
         ensures counted { self.new.faults ≡ faults_then self.old.faults result }
         ensures path { self.new.path ≡ self.old.path }
+        ensures synced { self.new.synced ≡ self.old.synced }
     {
         let result = listing::list(&self.rt, &self.path, prefix);
         count(&mut self.faults, result)
@@ -68,6 +75,7 @@ impl<R: Files + AllocGlobal + Clone + Drop> Dir for FolderDir<R> {
         ensures cause { HasCause self.old.faults self.new.faults result }
         ensures counted { self.new.faults ≡ faults_then self.old.faults result }
         ensures path { self.new.path ≡ self.old.path }
+        ensures synced { self.new.synced ≡ self.old.synced }
     {
         let result = folder::read(&self.rt, &self.path, name);
         count(&mut self.faults, result)
@@ -78,6 +86,7 @@ impl<R: Files + AllocGlobal + Clone + Drop> Dir for FolderDir<R> {
         ensures cause { HasCause self.old.faults self.new.faults result }
         ensures counted { self.new.faults ≡ faults_then self.old.faults result }
         ensures path { self.new.path ≡ self.old.path }
+        ensures synced { self.new.synced ≡ self.old.synced }
     {
         let result = folder::read_at(&self.rt, &self.path, name, at, into);
         count(&mut self.faults, result)
@@ -89,6 +98,8 @@ impl<R: Files + AllocGlobal + Clone + Drop> Dir for FolderDir<R> {
         ensures cause { HasCause self.old.faults self.new.faults result }
         ensures counted { self.new.faults ≡ faults_then self.old.faults result }
         ensures path { self.new.path ≡ self.old.path }
+        ensures synced { IsTrue self.new.synced → IsTrue self.old.synced }
+        ensures held { OnOk result (self.new.synced ≡ false) }
     {
         let result = folder::write(&self.rt, &self.path, name, bytes, &mut self.written);
         count(&mut self.faults, result)
@@ -101,26 +112,30 @@ impl<R: Files + AllocGlobal + Clone + Drop> Dir for FolderDir<R> {
         ensures cause { HasCause self.old.faults self.new.faults result }
         ensures counted { self.new.faults ≡ faults_then self.old.faults result }
         ensures path { self.new.path ≡ self.old.path }
+        ensures synced { OnOk result (IsTrue self.new.synced) }
+        ensures held { self.new.synced ≡ is_ok result }
     {
-        let result = sync_all(&self.rt, &self.written, &mut self.is_lost);
-        if result.is_ok() {
-            self.written.clear();
-        }
+        let result = sync_all(&self.rt, &mut self.written, &mut self.is_lost);
         count(&mut self.faults, result)
     }
 }
 
-// Syncs these paths, unless a sync failed before.
-fn sync_all(rt: &impl Files, written: &BTreeSet<String>, is_lost: &mut bool) -> Result<(), DirError>
-    ensures { OnErr result (IsErrOf result DirError.Failed) }
+// Syncs these paths one after another, and lets go of each, unless a sync failed before.
+fn sync_all(
+    rt: &impl Files,
+    written: &mut BTreeSet<String>,
+    is_lost: &mut bool,
+) -> Result<(), DirError>
+    ensures only_failed { OnErr result (IsErrOf result DirError.Failed) }
+    ensures held { is_synced written.new is_lost.new ≡ is_ok result }
 {
-    for path in written {
-        *is_lost = *is_lost || folder::sync(rt, path).is_err();
+    while !*is_lost {
+        let Some(path) = written.pop_first() else {
+            return Ok(());
+        };
+        *is_lost = folder::sync(rt, &path).is_err();
     }
-    if *is_lost {
-        return Err(DirError::Failed);
-    }
-    Ok(())
+    Err(DirError::Failed)
 }
 
 // Counts a fault where the call failed. The count stops at its last value.

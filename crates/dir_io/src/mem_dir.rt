@@ -1,5 +1,5 @@
 // A directory in memory.
-ghost use Rattle.std.specs.Prelude.{◌≡◌, ◌≤◌, ◌↔◌, true, false, Some, IfOk, OnOk, OnErr, IsErrOf, length, option_map, string_bytes};
+ghost use Rattle.std.specs.Prelude.{◌≡◌, ◌≤◌, ◌↔◌, true, false, Some, IfOk, OnOk, OnErr, IsErrOf, IsTrue, length, option_map, string_bytes};
 ghost use Rattle.std.specs.Io.{ReadsAtMost};
 ghost use Rattle.std.specs.List.{position};
 ghost use Rattle.std.specs.Str.{bytes_eq};
@@ -21,6 +21,8 @@ use stream_io::FailingCalls;
 pub struct MemDir {
     files: Vec<(String, Vec<u8>)>,
     calls: FailingCalls,
+    // Whether no file was written since the last sync that was done.
+    is_synced: bool,
 }
 
 impl Model for MemDir {
@@ -29,7 +31,7 @@ impl Model for MemDir {
 
     ghost Value = { DirState };
 
-    ghost view = { λ d. record { files = seen d.files.items; calls = d.calls } };
+    ghost view = { λ d. record { files = seen d.files.items; calls = d.calls; synced = d.is_synced } };
 }
 
 impl MemDir {
@@ -37,10 +39,12 @@ impl MemDir {
     pub fn new(files: Vec<(String, Vec<u8>)>, failing: Vec<u64>) -> MemDir
         ensures files { result.files ≡ seen files.items }
         ensures calls { result.calls ≡ no_calls failing.items }
+        ensures synced { result.synced ≡ true }
     {
         MemDir {
             files,
             calls: FailingCalls::new(failing),
+            is_synced: true,
         }
     }
 }
@@ -50,9 +54,12 @@ impl Dir for MemDir {
 
     ghost faults = { λ d. d.calls.faults };
 
+    ghost synced = { λ d. d.synced };
+
     fn list(&mut self, prefix: &str) -> Result<Vec<String>, DirError>
         ensures names { IfOk result (λ names. IsListing (Some self.old.files) prefix.now (texts names.items)) }
         ensures files { Some self.new.files ≡ Some self.old.files }
+        ensures synced { self.new.synced ≡ self.old.synced }
         ensures never_missing { is_missing result ≡ false }
         ensures cause { HasCause self.old.calls.faults self.new.calls.faults result }
 
@@ -67,6 +74,7 @@ impl Dir for MemDir {
     fn read(&mut self, name: &str) -> Result<Vec<u8>, DirError>
         ensures bytes { IfOk result (λ bytes. IsFile (Some self.old.files) name.now bytes.items) }
         ensures files { Some self.new.files ≡ Some self.old.files }
+        ensures synced { self.new.synced ≡ self.old.synced }
         ensures missing { MissingIffNone (Some self.old.files) name.now result }
         ensures cause { HasCause self.old.calls.faults self.new.calls.faults result }
 
@@ -85,6 +93,7 @@ impl Dir for MemDir {
         ensures bound { ReadsAtMost result into.new }
         ensures piece { IfOk result (λ count. IsPieceOf (Some self.old.files) name.now at count into.old into.new) }
         ensures files { Some self.new.files ≡ Some self.old.files }
+        ensures synced { self.new.synced ≡ self.old.synced }
         ensures missing { MissingIffNone (Some self.old.files) name.now result }
         ensures cause { HasCause self.old.calls.faults self.new.calls.faults result }
 
@@ -104,29 +113,35 @@ impl Dir for MemDir {
     fn write(&mut self, name: &str, bytes: &[u8]) -> Result<(), DirError>
         ensures written { OnOk result (IsFile (Some self.new.files) name.now bytes.now) }
         ensures others { LeavesOthers (Some self.old.files) (Some self.new.files) name.now }
+        ensures synced { IsTrue self.new.synced → IsTrue self.old.synced }
         ensures never_missing { is_missing result ≡ false }
         ensures cause { HasCause self.old.calls.faults self.new.calls.faults result }
 
         ensures fails { (is_failed result ≡ true) ↔ IsListed self.old.calls }
         ensures calls { self.new.calls ≡ called self.old.calls result }
         ensures with { OnOk result (IsWith self.old.files self.new.files name.now bytes.now) }
-        ensures err { OnErr result (self.new.files ≡ self.old.files) }
+        ensures held { OnOk result (self.new.synced ≡ false) }
+        ensures err { OnErr result ((self.new.files ≡ self.old.files) × (self.new.synced ≡ self.old.synced)) }
     {
         self.calls.make(false)?;
         put_file(&mut self.files, name, bytes)?;
+        self.is_synced = false;
         Ok(())
     }
 
     fn sync(&mut self) -> Result<(), DirError>
         ensures files { Some self.new.files ≡ Some self.old.files }
+        ensures synced { OnOk result (IsTrue self.new.synced) }
         ensures only_failed { OnErr result (IsErrOf result DirError.Failed) }
         ensures cause { HasCause self.old.calls.faults self.new.calls.faults result }
 
         ensures fails { (is_failed result ≡ true) ↔ IsListed self.old.calls }
         ensures calls { self.new.calls ≡ called self.old.calls result }
         ensures left { self.new.files ≡ self.old.files }
+        ensures err { OnErr result (self.new.synced ≡ self.old.synced) }
     {
         self.calls.make(false)?;
+        self.is_synced = true;
         Ok(())
     }
 }
