@@ -44,6 +44,7 @@ pub fn read_form<D: Dir>(alloc: Global, name: &str, dir: &mut D) -> Result<Form,
     ensures exact { IfSome (D.files dir.old) (λ told. Given (Unit {0}) form_seen (forms.Finds told name.now) result) }
     ensures order { IfOk result (λ form. forms.IsInOrder (form_seen form)) }
     ensures files { D.files dir.new ≡ D.files dir.old }
+    ensures synced { D.synced dir.new ≡ D.synced dir.old }
     ensures cause { HasFormCause (D.faults dir.old) (D.faults dir.new) result }
 {
     let names = names_under(alloc, name, dir)?;
@@ -57,6 +58,7 @@ fn names_under<D: Dir>(alloc: Global, name: &str, dir: &mut D) -> Result<Vec<Str
     ensures names { IfOk result (λ names. IsListing (D.files dir.old) (paths.prefix_of name.now) (texts names.items)) }
     ensures given { OnlyLost result }
     ensures files { D.files dir.new ≡ D.files dir.old }
+    ensures synced { D.synced dir.new ≡ D.synced dir.old }
     ensures cause { HasFormCause (D.faults dir.old) (D.faults dir.new) result }
 {
     match dir.list(&prefix_of(alloc, name)?) {
@@ -77,6 +79,7 @@ fn slot_of<D: Dir>(
     ensures slot { IfSome (D.files dir.old) (λ told. Given (Unit {0}) (λ slot. slot) (λ found. found ≡ forms.slot_in name.now (texts names.now) told) result) }
     ensures listed { IfOk result (λ slot. is_among (texts names.now) (paths.manifest_path name.now slot) ≡ true) }
     ensures files { D.files dir.new ≡ D.files dir.old }
+    ensures synced { D.synced dir.new ≡ D.synced dir.old }
     ensures cause { HasFormCause (D.faults dir.old) (D.faults dir.new) result }
 {
     let path = version_path(alloc, name)?;
@@ -95,6 +98,7 @@ fn read_listed<D: Dir>(alloc: Global, path: &str, dir: &mut D) -> Result<Vec<u8>
     requires { IfSome (D.files dir.old) (λ told. is_some (file_of told path.now) ≡ true) }
     ensures bytes { IfSome (D.files dir.old) (λ told. Given (Unit {0}) (λ bytes. bytes.items) (λ found. found ≡ Ok (forms.bytes_at told path.now)) result) }
     ensures files { D.files dir.new ≡ D.files dir.old }
+    ensures synced { D.synced dir.new ≡ D.synced dir.old }
     ensures cause { HasFormCause (D.faults dir.old) (D.faults dir.new) result }
 {
     match dir.read(path) {

@@ -1,5 +1,5 @@
 // Calls of a directory that the writing of a snapshot makes.
-ghost use Rattle.std.specs.Prelude.{◌≡◌, false, OnOk};
+ghost use Rattle.std.specs.Prelude.{◌≡◌, false, OnOk, IsTrue};
 ghost use Rattle.dir_io.specs.Files.{IsFile, LeavesOthers};
 ghost use Rattle.field_codec.specs.Paths as paths;
 ghost use Rattle.snap_write.specs.Changes.{AnswersNew};
@@ -37,6 +37,7 @@ pub(crate) fn put_file<D: Dir>(dir: &mut D, path: &str, bytes: &[u8]) -> Result<
 // Makes sure that what was written lasts.
 pub(crate) fn sync<D: Dir>(dir: &mut D) -> Result<(), SnapFault>
     ensures files { D.files dir.new ≡ D.files dir.old }
+    ensures synced { OnOk result (IsTrue (D.synced dir.new)) }
     ensures cause { HasSnapCause (D.faults dir.old) (D.faults dir.new) result }
     ensures not_there { is_exists result ≡ false }
 {

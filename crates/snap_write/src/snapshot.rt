@@ -1,5 +1,5 @@
 // Writing a snapshot.
-ghost use Rattle.std.specs.Prelude.{◌≡◌, ◌≤◌, ◌%◌, [], ◌∷◌, true, map, All, IfOk, IfSome, OnOk};
+ghost use Rattle.std.specs.Prelude.{◌≡◌, ◌≤◌, ◌%◌, [], ◌∷◌, true, map, All, IfOk, IfSome, OnOk, IsTrue};
 ghost use Rattle.std.specs.List.Sorted.{IsStrictlyIncreasing};
 ghost use Rattle.field_codec.specs.Manifest as manifest;
 ghost use Rattle.field_codec.specs.Paths as paths;
@@ -45,6 +45,7 @@ pub fn write_snapshot<D: Dir>(
         HoldsSnapshot told name.now slot
         (written.with_rows (map shown (images_of storages.now)))
         (written.slots_without_rows (map shown (images_of storages.now))))) }
+    ensures synced { OnOk result (IsTrue (D.synced dir.new)) }
     ensures exact { AnswersNew (paths.prefix_of name.now) (D.files dir.old) result }
     ensures exists { is_exists result ≡ true → D.files dir.new ≡ D.files dir.old }
     // So they are whatever it answers, where a file is under the name.
@@ -76,6 +77,7 @@ fn write_files<D: Dir>(
         (D.files dir.old) (D.files dir.new) }
     ensures fit { OnOk result (All written.IsFit (images_of storages.now)) }
     ensures manifest { OnOk result (IsWrittenManifest (written.content_of slot (images_of storages.now))) }
+    ensures synced { OnOk result (IsTrue (D.synced dir.new)) }
 {
     names_of_files_differ();
     write_body(alloc, name, slot, storages, dir)?;
