@@ -6,6 +6,8 @@
 #![tactic(auto)]
 
 mod fault;
+#[cfg(test)]
+mod folder_tests;
 mod images;
 mod laws;
 mod reading;

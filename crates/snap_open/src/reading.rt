@@ -29,6 +29,7 @@ pub(crate) fn read_files<D: Dir>(
     ensures bytes { IfOk result (λ loaded. All (HasBytes (D.files dir.old)) loaded.items) }
     ensures lost { IfErr result (IsLost (D.files dir.old)) }
     ensures files { D.files dir.new ≡ D.files dir.old }
+    ensures synced { D.synced dir.new ≡ D.synced dir.old }
     ensures cause { HasOpenCause (D.faults dir.old) (D.faults dir.new) result }
 {
     let mut read = Vec::with_capacity(alloc, files.len())?;
@@ -45,6 +46,7 @@ fn read_file<D: Dir>(file: FormFile, dir: &mut D) -> Result<Loaded, OpenFault>
     ensures bytes { IfOk result (HasBytes (D.files dir.old)) }
     ensures lost { IfErr result (IsLost (D.files dir.old)) }
     ensures files { D.files dir.new ≡ D.files dir.old }
+    ensures synced { D.synced dir.new ≡ D.synced dir.old }
     ensures cause { HasOpenCause (D.faults dir.old) (D.faults dir.new) result }
 {
     match dir.read(&file.name) {

@@ -37,6 +37,7 @@ pub fn open_snapshot<D: Dir>(
     // A form's fault is never the directory's, and no fault of a file is want of memory.
     ensures own { IfErr result IsOwn }
     ensures files { D.files dir.new ≡ D.files dir.old }
+    ensures synced { D.synced dir.new ≡ D.synced dir.old }
     ensures cause { HasOpenCause (D.faults dir.old) (D.faults dir.new) result }
 {
     held_forms_are_found();
@@ -56,6 +57,7 @@ fn open_form<D: Dir>(
     ensures opened { IfOk result (OpenedForm budget (D.files dir.old) (form_seen form)) }
     ensures refused { IfErr result (WhyFormNotOpened (D.files dir.old) budget (form_seen form).files) }
     ensures files { D.files dir.new ≡ D.files dir.old }
+    ensures synced { D.synced dir.new ≡ D.synced dir.old }
     ensures cause { HasOpenCause (D.faults dir.old) (D.faults dir.new) result }
 {
     check_room(budget, &form.files)?;

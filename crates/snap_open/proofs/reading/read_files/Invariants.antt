@@ -11,5 +11,6 @@ invariant-loop-file g l = record {
   parts : files_of l.read.items ++ map file_seen (into_iter_items l.file-iterator) ≡ map file_seen l.fn.files.items;
   bytes : All (HasBytes (g.D.Dir.files l.fn.dir)) l.read.items;
   files : g.D.Dir.files l.dir ≡ g.D.Dir.files l.fn.dir;
+  synced : g.D.Dir.synced l.dir ≡ g.D.Dir.synced l.fn.dir;
   faults : g.D.Dir.faults l.dir ≡ g.D.Dir.faults l.fn.dir;
 }
