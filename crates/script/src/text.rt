@@ -45,7 +45,8 @@ fn push_data(text: &mut String, bytes: &[u8]) -> Result<(), AllocError>
     }
     let len = bytes.len();
     if len > MOST_PLAIN && are_equal(bytes) {
-        write!(text, "{len}*")?;
+        push_number(text, len as u64)?;
+        text.push_str("*")?;
         let (first, _) = bytes.split_at(1);
         return push_hex(text, first);
     }
@@ -116,7 +117,10 @@ fn push_call(
             text.push_str(" ")?;
             push_key(text, &key.0)
         }
-        Call::Unpin { id } => write!(text, "unpin {id}"),
+        Call::Unpin { id } => {
+            text.push_str("unpin ")?;
+            push_number(text, *id)
+        }
         Call::Lease { max_root } => {
             text.push_str("lease ")?;
             push_max_root(text, *max_root)

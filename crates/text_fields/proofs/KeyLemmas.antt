@@ -1,11 +1,11 @@
 -- What `hex` reads and prints is what the definitions say of a 32-byte value.
 use Rattle.std.proofs.Common.{◌≡◌, ℕ, ◌+◌, ◌-◌, ◌*◌, ◌/◌, ◌%◌, ◌<◌, ◌≤◌, leb, ◌&&◌, Bool, true, false, true≢false, suc, List, [], ◌∷◌, ◌++◌, length, take, drop, Some, None, Result, Ok, Err, refl, sym, ap, ap₂, subst, ◌∙◌, arith, inl, inr, length-take-le, length-drop}
-use Rattle.std.specs.Prelude.{◌==◌, codes, replicate, reverse, slice_index, IsSome, is_some, MatchResult}
+use Rattle.std.specs.Prelude.{◌==◌, replicate, reverse, slice_index, IsSome, is_some, MatchResult}
 use Rattle.std.specs.List.{suffix_len}
 use Rattle.std.proofs.lemmas.Bool.{and_from, and_parts, cases_Bool, cases_lt, cond-true, cond-false, le-leb, leb-true, eqb-true}
 use Rattle.std.proofs.lemmas.List.{drop-replicate, length-take, get_or-reverse, get_or-take, get_or-drop, get_or_past, take-append-drop}
 use Rattle.std.proofs.lemmas.List.Sums.{prefix_len_passes, suffix_len-le-length}
-use Rattle.hex.specs.Hex.{IsBytes, encode_with, decode_of, decode_sized, lower_digits}
+use Rattle.hex.specs.Hex.{IsBytes, decode_of, decode_sized, lower_digits}
 use Rattle.hex.specs.declared.error.FromHexError.{FromHexError}
 use Rattle.hex.proofs.HexLemmas.{decode_of-digits, decode_of-encode_lower, decode_of-odd, decode_of-ok, decode_sized-ok, decode_sized-twice, length-encode_with}
 use Rattle.text_fields.specs.Keys.{IsKeyWord, key_of, key_text, padded, padded_if_ok, printed_len}
@@ -89,11 +89,6 @@ pub words_are_keys : KeyWordsAreKeys
 words_are_keys w = (key_facts w, facts_key w)
 
 -- ---- printing
-
--- the text of zeros
-pub zeros_text : (k : List ℕ) → k ≡ replicate 32 0 → key_text k ≡ codes "00"
-unfolding key_text encode_with
-zeros_text k zeros = rw zeros refl
 
 -- ---- what is printed is read
 

@@ -53,9 +53,6 @@ pub fn push_key(text: &mut String, key: &[u8; 32]) -> Result<(), AllocError>
     ensures pushed { OnOk result (string_bytes text.new ≡ string_bytes text.old ++ keys.key_text key.now) }
     ensures kept { OnErr result (string_bytes text.new ≡ string_bytes text.old) }
 {
-    if *key == [0; 32] {
-        return text.push_str("00");
-    }
     let (printed, _) = key.split_at(printed_len(key));
     push_piece(text, printed)
 }
