@@ -204,6 +204,7 @@ fn end_unopened<K: Sink>(alloc: Global, name: &str, fault: OpenFault, sink: &mut
 pub fn open<R: AllocGlobal, K: Sink, D: Dir>(rt: &R, name: &str, sink: &mut K, dir: &mut D) -> End
     ensures ended { OpenEnded (D.files dir.old) (K.taken sink.old) (K.taken sink.new) (K.faults sink.old) (K.faults sink.new) name.now result }
     ensures files { D.files dir.new ≡ D.files dir.old }
+    ensures synced { D.synced dir.new ≡ D.synced dir.old }
     ensures causes { (s : ℕ) → HasCauses s s (D.faults dir.old) (D.faults dir.new) (K.faults sink.old) (K.faults sink.new) result }
     ensures sink_unfailed { result ≡ End.NoMemory → K.faults sink.new ≡ K.faults sink.old }
 {

@@ -47,6 +47,7 @@ fn name_asked(words: &[String]) -> Option<&str>
 fn play<R: AllocGlobal, K: Sink, D: Dir>(rt: &R, bytes: Vec<u8>, sink: &mut K, dir: &mut D) -> End
     ensures played { PlayedBytes bytes.items (D.files dir.old) (D.files dir.new) (K.taken sink.old) (K.taken sink.new) (K.faults sink.old) (K.faults sink.new) result }
     ensures causes { (s : ℕ) → HasCauses s s (D.faults dir.old) (D.faults dir.new) (K.faults sink.old) (K.faults sink.new) result }
+    ensures synced { result ≡ End.Done → IsTrue (D.synced dir.old) → IsTrue (D.synced dir.new) }
     ensures unused { IsUnused result → dir.new ≡ dir.old }
     ensures sink_unfailed { result ≡ End.NoMemory → K.faults sink.new ≡ K.faults sink.old }
 {
@@ -84,6 +85,7 @@ fn replay<R: AllocGlobal, S: Source, K: Sink, D: Dir>(
     ensures ended { Ended (Some Replay) (S.left source.old) (S.left source.new) (D.files dir.old) (D.files dir.new)
         (K.taken sink.old) (K.taken sink.new) (K.faults sink.old) (K.faults sink.new) result }
     ensures causes { HasCauses (S.faults source.old) (S.faults source.new) (D.faults dir.old) (D.faults dir.new) (K.faults sink.old) (K.faults sink.new) result }
+    ensures synced { result ≡ End.Done → IsTrue (D.synced dir.old) → IsTrue (D.synced dir.new) }
     ensures unused { IsUnused result → dir.new ≡ dir.old }
     ensures sink_unfailed { result ≡ End.NoMemory → K.faults sink.new ≡ K.faults sink.old }
 {
@@ -114,6 +116,7 @@ fn run_unflushed<R: AllocGlobal, S: Source, K: Sink, D: Dir>(
     ensures causes { HasCauses (S.faults source.old) (S.faults source.new) (D.faults dir.old) (D.faults dir.new) (K.faults sink.old) (K.faults sink.new) result }
     ensures unread { command_of (map (λ word. string_bytes word) words.now) ≢ Some Replay → source.new ≡ source.old }
     ensures only_read { command_of (map (λ word. string_bytes word) words.now) ≢ Some Replay → D.files dir.new ≡ D.files dir.old }
+    ensures synced { result ≡ End.Done → IsTrue (D.synced dir.old) → IsTrue (D.synced dir.new) }
     ensures unused { IsUnused result → dir.new ≡ dir.old }
     ensures sink_unfailed { result ≡ End.NoMemory → K.faults sink.new ≡ K.faults sink.old }
 {
@@ -142,6 +145,7 @@ fn run_to_end<R: AllocGlobal, S: Source, K: Sink, D: Dir>(
     ensures causes { HasCauses (S.faults source.old) (S.faults source.new) (D.faults dir.old) (D.faults dir.new) (K.faults sink.old) (K.faults sink.new) result }
     ensures unread { command_of (map (λ word. string_bytes word) words.now) ≢ Some Replay → source.new ≡ source.old }
     ensures only_read { command_of (map (λ word. string_bytes word) words.now) ≢ Some Replay → D.files dir.new ≡ D.files dir.old }
+    ensures synced { result ≡ End.Done → IsTrue (D.synced dir.old) → IsTrue (D.synced dir.new) }
     ensures unused { IsUnused result → dir.new ≡ dir.old }
     ensures flushed { ¬ (Rose (K.faults sink.old) (K.faults sink.new)) → IsTrue (K.flushed sink.new) }
 {
@@ -191,6 +195,8 @@ pub fn run<R: AllocGlobal, S: Source, K: Sink, D: Dir>(
     // The source gave a script, was read to its end, the sink took the whole journal, and the snapshots stand;
     // or the sink took the lines of the snapshot and of all its accounts.
     ensures done { result ≡ 0 → IsDone (command_of (map (λ word. string_bytes word) words.now)) (S.left source.old) (S.left source.new) (D.files dir.old) (D.files dir.new) (K.taken sink.old) (K.taken sink.new) }
+    // All that was written is synced then, where it was so before.
+    ensures synced { result ≡ 0 → IsTrue (D.synced dir.old) → IsTrue (D.synced dir.new) }
     // Nothing failed then, the flush included.
     ensures unfailed { result ≡ 0 → (S.faults source.new ≡ S.faults source.old) × (D.faults dir.new ≡ D.faults dir.old) × (K.faults sink.new ≡ K.faults sink.old) }
 

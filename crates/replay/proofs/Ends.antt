@@ -15,6 +15,13 @@ use Rattle.replay.specs.declared.stops.Halt.TheVariants as halts
 use Rattle.replay.specs.Journaled.{EndsWith, PlayedAll, CutShort, DirectoryFailed, SnapshotRefused, directory_fault_line, exists_line, not_opened_line, journal_upto}
 use Rattle.replay.specs.Ending.{status_of, EndsHalted, HaltCause, HaltsLines, HaltsHeader, EndsBy}
 
+-- a run that was halted was not done
+pub not_done : (halt : Halt) → status_of halt ≡ 0 → ⊥
+not_done (halts.Cut stops.NoMemory) zero = omega (arith, zero)
+not_done (halts.Cut stops.SinkFault) zero = omega (arith, zero)
+not_done halts.DirFault zero = omega (arith, zero)
+not_done (halts.Refused line) zero = omega (arith, zero)
+
 -- what a write of the whole line leaves
 pub line_ends : (r : Result (Unit {0}) Failed) (a b : Option (List ℕ)) (k k' : ℕ) (line : List ℕ)
     → OnOk r (Appends a b line) → OnErr r (AppendsFront a b line) → HasCause k k' r → EndsWith a b k k' [] line

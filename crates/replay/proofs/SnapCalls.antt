@@ -37,6 +37,11 @@ use Rattle.replay.proofs.Streams.{appends_as, front_then, front_of_more}
 use Rattle.replay.proofs.Living.{AnswersAs, saves_one}
 use Rattle.replay.proofs.NextCalls.{FewerAbove, snap_ends, rest_of}
 
+-- what holds where a snapshot was written holds where the run goes on after it
+pub judged : (name : List ℕ) (written : Result (Unit {0}) SnapFault) (result : Result (Unit {0}) Halt) (P : Type 0) → Judges name written result → OnOk written P → OnOk result P
+judged name written (Ok u) P judges on = subst (λ (r : Result (Unit {0}) SnapFault). OnOk r P) judges on
+judged name written (Err halt) P judges on = tt
+
 -- when a snapshot may begin
 abbrev pub MayBegin : Type 0
 MayBegin = (m : State) (pass slot storages : ℕ) → (step m pass (SnapBegin slot)).1 ≡ SnapBegun storages → IsTrue (among slot m.roots) × (m.cleaned ≤ slot) × IsFlushedUpto m slot

@@ -1,5 +1,5 @@
 // The lines of a script, one after another.
-ghost use Rattle.std.specs.Prelude.{◌≡◌, ℕ, List, [], All, map, OnOk, IfErr, Option, option_map};
+ghost use Rattle.std.specs.Prelude.{◌≡◌, ℕ, List, [], All, map, OnOk, IfErr, IsTrue, Option, option_map};
 ghost use Rattle.adb_model.specs.State.{State};
 ghost use Rattle.adb_model.specs.Call as machine;
 ghost use Rattle.dir_io.specs.Files.{Files};
@@ -42,6 +42,7 @@ fn play_line<R: AllocGlobal, K: Sink, D: Dir>(
         → OnOk result (SavedLine player.new start history (K.taken sink.old) (K.taken sink.new) (D.files dir.old) (D.files dir.new) (line_seen line.now)) }
     ensures err { (start : State) (history : List machine.Event) → PlayerStands player.old start history
         → IfErr result (HaltsLine start history (K.taken sink.old) (K.taken sink.new) (D.files dir.old) (D.files dir.new) (line_seen line.now)) }
+    ensures synced { OnOk result (IsTrue (D.synced dir.old) → IsTrue (D.synced dir.new)) }
     ensures counts { HasCounts (K.faults sink.old) (K.faults sink.new) (D.faults dir.old) (D.faults dir.new) result }
 {
     match snapshot_asked(&line.order) {
@@ -69,6 +70,7 @@ pub fn play_lines<R: AllocGlobal, K: Sink, D: Dir>(
     ensures err { (files : Option Files) (before : Option (List ℕ)) (budget : Option ℕ) (opened : Option (List ℕ))
         → HasPlayed player.old files (D.files dir.old) before (K.taken sink.old) (record { budget = budget; opened = opened; lines = [] })
         → IfErr result (HaltsLines files (D.files dir.new) before (K.taken sink.new) (record { budget = budget; opened = opened; lines = map line_seen lines.now })) }
+    ensures synced { OnOk result (IsTrue (D.synced dir.old) → IsTrue (D.synced dir.new)) }
     ensures counts { HasCounts (K.faults sink.old) (K.faults sink.new) (D.faults dir.old) (D.faults dir.new) result }
 {
     snapshots_stand_apart();

@@ -1,4 +1,4 @@
-ghost use Rattle.std.specs.Prelude.{◌≤◌, ℕ, List, All, IfOk, IfSome, IsSome, OnErr, map};
+ghost use Rattle.std.specs.Prelude.{◌≤◌, ℕ, List, All, IfOk, IfSome, IsSome, IsTrue, OnErr, OnOk, map};
 ghost use Rattle.adb_model.specs.State.{State};
 ghost use Rattle.adb_model.specs.Call as machine;
 ghost use Rattle.adb_model.specs.History.{state_after};
@@ -182,6 +182,7 @@ impl Player {
     ) -> Result<(), SnapFault>
         requires { IsSome self.now.snap }
         ensures written { IfSome self.now.snap (λ job. Writes job name.now (D.files dir.old) (D.files dir.new) result) }
+        ensures synced { OnOk result (IsTrue (D.synced dir.new)) }
         ensures cause { HasSnapCause (D.faults dir.old) (D.faults dir.new) result }
     {
         snapping::write(alloc, &self.snap, name, dir)

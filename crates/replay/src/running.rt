@@ -1,5 +1,5 @@
 // A script, from its header to its end.
-ghost use Rattle.std.specs.Prelude.{◌≡◌, ◌≤◌, ◌⊎◌, ℕ, List, [], All, Option, IfOk, IfErr, string_bytes};
+ghost use Rattle.std.specs.Prelude.{◌≡◌, ◌≤◌, ◌⊎◌, ℕ, List, [], All, Option, IfOk, IfErr, IsTrue, string_bytes};
 ghost use Rattle.adb_model.specs.State.{fresh};
 ghost use Rattle.dir_io.specs.Files.{Files};
 ghost use Rattle.stream_io.specs.Stream.{Rose};
@@ -64,6 +64,7 @@ fn opened_player<R: AllocGlobal, K: Sink, D: Dir>(
     ensures ok { IfOk result (λ player. HasOpened player (D.files dir.old) (K.taken sink.old) (K.taken sink.new) name.now budget) }
     ensures err { IfErr result (HaltsOpened (D.files dir.old) (K.taken sink.old) (K.taken sink.new) name.now budget) }
     ensures files { D.files dir.new ≡ D.files dir.old }
+    ensures synced { D.synced dir.new ≡ D.synced dir.old }
     ensures counts { HasCounts (K.faults sink.old) (K.faults sink.new) (D.faults dir.old) (D.faults dir.new) result }
 {
     let (book, slot) = match open_snapshot(rt.alloc(), name, budget, dir) {
@@ -86,6 +87,7 @@ fn begin_script<R: AllocGlobal, K: Sink, D: Dir>(
 ) -> Result<Player, Halt>
     ensures ok { IfOk result (λ player. HasPlayed player (D.files dir.old) (D.files dir.new) (K.taken sink.old) (K.taken sink.new) (without_lines (script_seen script.now))) }
     ensures err { IfErr result (HaltsHeader (D.files dir.old) (D.files dir.new) (K.taken sink.old) (K.taken sink.new) (script_seen script.now)) }
+    ensures synced { D.synced dir.new ≡ D.synced dir.old }
     ensures counts { HasCounts (K.faults sink.old) (K.faults sink.new) (D.faults dir.old) (D.faults dir.new) result }
 {
     let line = printer.print_budget(script.budget)?;
@@ -106,9 +108,10 @@ fn play_script<R: AllocGlobal, K: Sink, D: Dir>(
     dir: &mut D,
 ) -> u8
     requires { All (λ line. IsPlayable (line_seen line)) script.now.lines.items }
-    ensures { (files : Option Files) (before : Option (List ℕ))
+    ensures ends { (files : Option Files) (before : Option (List ℕ))
         → HasPlayed player.old files (D.files dir.old) before (K.taken sink.old) (without_lines (script_seen script.now))
         → EndsBy files (D.files dir.new) before (K.taken sink.new) (K.faults sink.old) (K.faults sink.new) (D.faults dir.old) (D.faults dir.new) (script_seen script.now) result }
+    ensures synced { result ≡ 0 → IsTrue (D.synced dir.old) → IsTrue (D.synced dir.new) }
 {
     match play_lines(rt, player, &script.lines, printer, sink, dir) {
         Ok(()) => 0,
@@ -124,7 +127,8 @@ fn run_to_end<R: AllocGlobal, K: Sink, D: Dir>(
     dir: &mut D,
 ) -> (u8, Option<Player>)
     requires { (bytes : List ℕ) × IsScript bytes (script_seen script.now) }
-    ensures { EndsBy (D.files dir.old) (D.files dir.new) (K.taken sink.old) (K.taken sink.new) (K.faults sink.old) (K.faults sink.new) (D.faults dir.old) (D.faults dir.new) (script_seen script.now) result.0 }
+    ensures ends { EndsBy (D.files dir.old) (D.files dir.new) (K.taken sink.old) (K.taken sink.new) (K.faults sink.old) (K.faults sink.new) (D.faults dir.old) (D.faults dir.new) (script_seen script.now) result.0 }
+    ensures synced { result.0 ≡ 0 → IsTrue (D.synced dir.old) → IsTrue (D.synced dir.new) }
 {
     let mut printer = JournalPrinter::new(rt.alloc());
     match begin_script(rt, script, &mut printer, sink, dir) {
@@ -143,7 +147,8 @@ fn run_to_end<R: AllocGlobal, K: Sink, D: Dir>(
 ///
 /// The status is
 ///
-/// - 0 where all lines were played. Each snapshot that began stands in the directory, and no other file changed;
+/// - 0 where all lines were played. Each snapshot that began stands in the directory, no other file changed, and all is
+///   synced where it was before;
 /// - 4 where the sink failed at a line of the journal, which it took some of the front of;
 /// - 5 where the directory failed at a snapshot that was written or opened;
 /// - 6 for want of memory; the sink took some of the front of the journal;
@@ -160,6 +165,7 @@ pub fn run_replay<R: AllocGlobal, K: Sink, D: Dir>(
     requires { (bytes : List ℕ) × IsScript bytes (script_seen script.now) }
     ensures which { IsStatus result }
     ensures done { result ≡ 0 → PlayedAll (D.files dir.old) (D.files dir.new) (K.taken sink.old) (K.taken sink.new) (script_seen script.now) }
+    ensures synced { result ≡ 0 → IsTrue (D.synced dir.old) → IsTrue (D.synced dir.new) }
     ensures cut { (result ≡ 4) ⊎ (result ≡ 6) → CutShort (D.files dir.old) (D.files dir.new) (K.taken sink.old) (K.taken sink.new) (script_seen script.now) }
     ensures failed { result ≡ 5 → DirectoryFailed (D.files dir.old) (D.files dir.new) (K.taken sink.old) (K.taken sink.new) (K.faults sink.old) (K.faults sink.new) (script_seen script.now) }
     ensures refused { result ≡ 7 → SnapshotRefused (D.files dir.old) (D.files dir.new) (K.taken sink.old) (K.taken sink.new) (K.faults sink.old) (K.faults sink.new) (script_seen script.now) }
@@ -185,6 +191,7 @@ pub fn run_replay_with_player<R: AllocGlobal, K: Sink, D: Dir>(
     requires { (bytes : List ℕ) × IsScript bytes (script_seen script.now) }
     ensures which { IsStatus result.0 }
     ensures done { result.0 ≡ 0 → PlayedAll (D.files dir.old) (D.files dir.new) (K.taken sink.old) (K.taken sink.new) (script_seen script.now) }
+    ensures synced { result.0 ≡ 0 → IsTrue (D.synced dir.old) → IsTrue (D.synced dir.new) }
     ensures cut { (result.0 ≡ 4) ⊎ (result.0 ≡ 6) → CutShort (D.files dir.old) (D.files dir.new) (K.taken sink.old) (K.taken sink.new) (script_seen script.now) }
     ensures failed { result.0 ≡ 5 → DirectoryFailed (D.files dir.old) (D.files dir.new) (K.taken sink.old) (K.taken sink.new) (K.faults sink.old) (K.faults sink.new) (script_seen script.now) }
     ensures refused { result.0 ≡ 7 → SnapshotRefused (D.files dir.old) (D.files dir.new) (K.taken sink.old) (K.taken sink.new) (K.faults sink.old) (K.faults sink.new) (script_seen script.now) }

@@ -1,5 +1,5 @@
 // A line that asks for a snapshot.
-ghost use Rattle.std.specs.Prelude.{◌≡◌, ℕ, List, Some, OnOk, IfOk, IfErr, option_map, string_bytes};
+ghost use Rattle.std.specs.Prelude.{◌≡◌, ℕ, List, Some, OnOk, IfOk, IfErr, IsTrue, option_map, string_bytes};
 ghost use Rattle.adb_model.specs.State.{State};
 ghost use Rattle.adb_model.specs.Call as machine;
 ghost use Rattle.adb_model.specs.Plays as plays;
@@ -75,6 +75,7 @@ pub fn play_snap<R: AllocGlobal, K: Sink, D: Dir>(
         → OnOk result (SavedLine player.new start history (K.taken sink.old) (K.taken sink.new) (D.files dir.old) (D.files dir.new) (snap_line lane slot name.now)) }
     ensures err { (start : State) (history : List machine.Event) → PlayerStands player.old start history
         → IfErr result (HaltsLine start history (K.taken sink.old) (K.taken sink.new) (D.files dir.old) (D.files dir.new) (snap_line lane slot name.now)) }
+    ensures synced { OnOk result (IsTrue (D.synced dir.old) → IsTrue (D.synced dir.new)) }
     ensures counts { HasCounts (K.faults sink.old) (K.faults sink.new) (D.faults dir.old) (D.faults dir.new) result }
 {
     histories_go_on();

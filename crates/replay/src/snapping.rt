@@ -1,5 +1,5 @@
 // The snapshot that a player has in hand.
-ghost use Rattle.std.specs.Prelude.{◌≡◌, ◌==◌, ℕ, List, false, IfOk, IfSome, IsSome};
+ghost use Rattle.std.specs.Prelude.{◌≡◌, ◌==◌, ℕ, List, false, IfOk, IfSome, IsSome, IsTrue, OnOk};
 ghost use Rattle.std.specs.Option.{option_map_or};
 ghost use Rattle.adb_model.specs.State.{State};
 ghost use Rattle.adb_model.specs.Call as machine;
@@ -63,6 +63,7 @@ pub fn write<D: Dir>(
     requires some { IsSome snap.now }
     requires stands { (m : State) × SnapStands snap.now m }
     ensures written { IfSome snap.now (λ job. Writes job name.now (D.files dir.old) (D.files dir.new) result) }
+    ensures synced { OnOk result (IsTrue (D.synced dir.new)) }
     ensures cause { HasSnapCause (D.faults dir.old) (D.faults dir.new) result }
 {
     let Some(job) = snap else {

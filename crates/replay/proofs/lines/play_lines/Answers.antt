@@ -10,7 +10,7 @@ use Rattle.replay.proofs.Snapshots.{SnapshotLaws}
 use Rattle.replay.proofs.lines.play_lines.Goals as goal
 
 pub loop-line-init : goal.loop-line-init
-loop-line-init g c = record { played = λ files before budget opened has. has; sink_kept = refl; dir_kept = refl }
+loop-line-init g c = record { played = λ files before budget opened has. has; sink_kept = refl; dir_kept = refl; synced = λ was. was }
 
 pub returns-in_err-play_line-clause-err : goal.returns-in_err-play_line-clause-err
 returns-in_err-play_line-clause-err g c files before budget opened has =
@@ -34,6 +34,7 @@ loop-line-preserved g c = record {
       c.play_line.new.player (c.in_ok-play_line.ensures.ok _ _ here.stands);
   sink_kept = c.in_ok-play_line.ensures.counts.done.0 ∙ c.loop-line.invariant.sink_kept;
   dir_kept = c.in_ok-play_line.ensures.counts.done.1 ∙ c.loop-line.invariant.dir_kept;
+  synced = λ was. c.in_ok-play_line.ensures.synced (c.loop-line.invariant.synced was);
 }
 
 pub returns-clause-ok : goal.returns-clause-ok

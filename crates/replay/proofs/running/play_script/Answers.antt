@@ -1,14 +1,14 @@
-use Rattle.std.proofs.Common.{◌≡◌, ℕ, List, map, Option, sym, subst, arith}
+use Rattle.std.proofs.Common.{◌≡◌, ℕ, List, map, Option, sym, subst, ◌∙◌, arith}
 use Rattle.script.specs.Seen.{line_seen, script_seen}
 use Rattle.script.specs.declared.line.Line as code
 use Rattle.replay.specs.Ending.{HaltsLines, EndsBy}
 use Rattle.replay.specs.Playing.{HasPlayed}
 use Rattle.replay.specs.Journaled.{PlayedAll}
-use Rattle.replay.proofs.Ends.{by_end, lines_halted}
+use Rattle.replay.proofs.Ends.{by_end, lines_halted, not_done}
 use Rattle.replay.proofs.running.play_script.Goals as goal
 
-pub returns-in-Ok : goal.returns-in-Ok
-returns-in-Ok g c files before has =
+pub returns-in-Ok-clause-ends : goal.returns-in-Ok-clause-ends
+returns-in-Ok-clause-ends g c files before has =
     let said = script_seen c.args.script.now in
     let counts = c.in-Ok.ensures.counts in
     by_end files (g.D.Dir.files c.play_lines.new.dir) before (g.K.Sink.taken c.play_lines.new.sink) (g.K.Sink.faults c.args.sink.now) (g.K.Sink.faults c.play_lines.new.sink)
@@ -17,8 +17,8 @@ returns-in-Ok g c files before has =
     (c.in-Ok.ensures.ok files before said.budget said.opened has).done)
     counts.done.0 counts.done.1
 
-pub returns-in-Err : goal.returns-in-Err
-returns-in-Err g c files before has =
+pub returns-in-Err-clause-ends : goal.returns-in-Err-clause-ends
+returns-in-Err-clause-ends g c files before has =
     let said = script_seen c.args.script.now in
     let counts = c.in-Err.ensures.counts in
     let halt = c.in-Err.halt in
@@ -29,3 +29,6 @@ returns-in-Err g c files before has =
     (g.D.Dir.faults c.args.dir.now) (g.D.Dir.faults c.play_lines.new.dir) said counts.sink_later c.end_halted.ensures.later counts.dir_later halt why counts.halted c.end_halted.ensures.ends in
     subst (λ (n : ℕ). EndsBy files f before (g.K.Sink.taken c.end_halted.new.sink) (g.K.Sink.faults c.args.sink.now) (g.K.Sink.faults c.end_halted.new.sink) (g.D.Dir.faults c.args.dir.now) (g.D.Dir.faults c.play_lines.new.dir) said n)
     (sym c.end_halted.ensures.status) ends
+
+pub returns-in-Err-clause-synced : goal.returns-in-Err-clause-synced
+returns-in-Err-clause-synced g c zero = absurd (not_done c.in-Err.halt (sym c.end_halted.ensures.status ∙ zero))

@@ -1,9 +1,9 @@
-use Rattle.std.proofs.Common.{◌≡◌, ℕ, List, map, Option, sym, subst, arith}
+use Rattle.std.proofs.Common.{◌≡◌, ℕ, List, map, Option, sym, subst, ◌∙◌, arith}
 use Rattle.std.specs.Str.Lines.{lines}
 use Rattle.script.specs.Grammar.{spoken}
 use Rattle.script.specs.Seen.{script_seen}
 use Rattle.replay.specs.Ending.{EndsBy}
-use Rattle.replay.proofs.Ends.{header_halted}
+use Rattle.replay.proofs.Ends.{header_halted, not_done}
 use Rattle.replay.proofs.Scripts.{are_playable}
 use Rattle.replay.proofs.running.run_to_end.Goals as goal
 
@@ -12,8 +12,8 @@ play_script-status-requires g c =
     let said = script_seen c.args.script.now in
     are_playable (spoken (lines c.requires.0)) said.budget said.opened c.args.script.now.lines.items c.requires.1
 
-pub returns-in-Err : goal.returns-in-Err
-returns-in-Err g c =
+pub returns-in-Err-clause-ends : goal.returns-in-Err-clause-ends
+returns-in-Err-clause-ends g c =
     let said = script_seen c.args.script.now in
     let counts = c.in-Err.ensures.counts in
     let halt = c.in-Err.halt in
@@ -25,8 +25,8 @@ returns-in-Err g c =
     subst (λ (n : ℕ). EndsBy f h a (g.K.Sink.taken c.end_halted.new.sink) (g.K.Sink.faults c.args.sink.now) (g.K.Sink.faults c.end_halted.new.sink) (g.D.Dir.faults c.args.dir.now) (g.D.Dir.faults c.begin_script.new.dir) said n)
     (sym c.end_halted.ensures.status) ends
 
-pub returns : goal.returns
-returns g c =
+pub returns-clause-ends : goal.returns-clause-ends
+returns-clause-ends g c =
     let said = script_seen c.args.script.now in
     let counts = c.in-Ok.ensures.counts in
     let f = g.D.Dir.files c.args.dir.now in
@@ -37,4 +37,10 @@ returns g c =
     let d' = g.D.Dir.faults c.play_script-status.new.dir in
     subst (λ (n : ℕ). EndsBy f h a d n k' (g.D.Dir.faults c.args.dir.now) d' said c.play_script-status.result) counts.done.0
     (subst (λ (n : ℕ). EndsBy f h a d (g.K.Sink.faults c.begin_script.new.sink) k' n d' said c.play_script-status.result) counts.done.1
-    (c.play_script-status.ensures f a c.in-Ok.ensures.ok))
+    (c.play_script-status.ensures.ends f a c.in-Ok.ensures.ok))
+
+pub returns-in-Err-clause-synced : goal.returns-in-Err-clause-synced
+returns-in-Err-clause-synced g c zero = absurd (not_done c.in-Err.halt (sym c.end_halted.ensures.status ∙ zero))
+
+pub returns-clause-synced : goal.returns-clause-synced
+returns-clause-synced g c zero was = c.play_script-status.ensures.synced zero (c.in-Ok.ensures.synced ∙ was)

@@ -1,6 +1,6 @@
 use Rattle.std.proofs.Common.{◌≡◌, ℕ, ◌++◌, ◌∷◌, [], List, map, Option, Some, None, refl, sym, ap, ◌∙◌, subst}
 use Rattle.std.specs.Option.{option_map}
-use Rattle.std.proofs.lemmas.Result.{err_from_is_err_and}
+use Rattle.std.proofs.lemmas.Result.{err_from_is_err_and, on_ok_weaker}
 use Rattle.adb_model.specs.Call as machine
 use Rattle.adb_model.specs.Call.{Call, Event}
 use Rattle.adb_model.specs.Laws.{ShowLive}
@@ -11,7 +11,8 @@ use Rattle.book_parts.specs.Snaps.{Snapshot}
 use Rattle.replay.specs.Saved.{event_of, Writes}
 use Rattle.replay.specs.Playing.{PlayedCall, CutCall}
 use Rattle.replay.proofs.NextCalls.{snap_second}
-use Rattle.replay.proofs.SnapCalls.{SnapLaws, hand_of, begin_cut, not_begun, end_cut, judged_ok, judged_err}
+use Rattle.std.specs.Prelude.{IsTrue}
+use Rattle.replay.proofs.SnapCalls.{SnapLaws, hand_of, begin_cut, not_begun, end_cut, judged, judged_ok, judged_err}
 use Rattle.replay.proofs.saving.play_snap.Goals as goal
 
 pub returns-in_err-reply-clause-err : goal.returns-in_err-reply-clause-err
@@ -84,3 +85,8 @@ returns-clause-err g c start h st =
     judged_err laws start h lane c.args.slot c.args.name.now a b c.play_call.new.player r made end.0 end.1 (g.D.Dir.files c.args.dir.now) (g.D.Dir.files c.write_snapshot-written.new.dir) d s told ended
     st.book.sound hand.0 hand.1.0 hand.1.1 (λ root is cleaned flushed images show budget more k. c.nothing_returns.ensures.opened (state_after start h) st.book.sound root is cleaned flushed images show budget more k)
     c.write_snapshot-written.result hand.2 c.judge.result c.judge.ensures
+
+pub returns-clause-synced : goal.returns-clause-synced
+returns-clause-synced g c =
+    on_ok_weaker c.judge.result (λ is was. is)
+    (judged c.args.name.now c.write_snapshot-written.result c.judge.result (IsTrue (g.D.Dir.synced c.write_snapshot-written.new.dir)) c.judge.ensures c.write_snapshot-written.ensures.synced)
