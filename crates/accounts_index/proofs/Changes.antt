@@ -23,26 +23,33 @@ use Rattle.accounts_index.proofs.Searches.{found_there}
 pub IsWith-to : (old new : Index) (key : List ℕ) (k l : Kept) → IsWith old new key k → k ≡ l → IsWith old new key l
 IsWith-to old new key k l is same = subst (IsWith old new key) same is
 
+-- an entry, its lists as they were found in their box
+abbrev pub reached : Entry → Lists → Entry
+reached e lists = record e { lists = record e.lists { value = lists } }
+
+pub read_reached : (es : List Entry) (i : ℕ) (e : Entry) (lists : Lists) → lists ≡ e.lists.value → e ≡ get_or es i e → reached e lists ≡ get_or es i (reached e lists)
+read_reached es i e lists is read = subst (λ (x : Entry). x ≡ get_or es i x) (sym (ap (reached e) is)) read
+
 module _ (es : List Entry) (key : List ℕ) (i : ℕ) (found : IsAt es key i) (e : Entry) (read : e ≡ get_or es i e) where
   -- the entry that was read at the place of the key
   pub read_key : e.key.0 ≡ key
   read_key = ap (λ (x : Entry). x.key.0) read ∙ found.has_key e
 
   -- its lists
-  read_lists : e.lists ≡ (get_or es i e).lists
-  read_lists = ap (λ (x : Entry). x.lists) read
+  read_lists : e.lists.value ≡ (get_or es i e).lists.value
+  read_lists = ap (λ (x : Entry). x.lists.value) read
 
-  pub read_kept : kept (seen es) key ≡ kept_of e.lists
+  pub read_kept : kept (seen es) key ≡ kept_of e.lists.value
   read_kept = kept_at es key i found e ∙ ap kept_of (sym read_lists)
 
-  pub read_room : AreEntries es → HasRoom e.lists
+  pub read_room : AreEntries es → HasRoom e.lists.value
   read_room all = subst HasRoom (sym read_lists) (all.room i e found.in_range)
 
-  pub read_used : AreEntries es → IsUsed e.lists
+  pub read_used : AreEntries es → IsUsed e.lists.value
   read_used all = subst IsUsed (sym read_lists) (all.used i e found.in_range)
 
   module _ (x : Entry) (same : x.key.0 ≡ e.key.0) where
-    pub IsWith-write : IsWith (seen es) (seen (set es i x)) key (kept_of x.lists)
+    pub IsWith-write : IsWith (seen es) (seen (set es i x)) key (kept_of x.lists.value)
     IsWith-write = IsWith-set es key i found x (same ∙ read_key)
 
     key-write : (k : ℕ) (d : Entry) → k < length es → (get_or (set es i x) k d).key.0 ≡ (get_or es k d).key.0
@@ -57,19 +64,19 @@ module _ (es : List Entry) (key : List ℕ) (i : ℕ) (found : IsAt es key i) (e
         ∙ ap (key_cmp (get_or es k d).key.0) (key-write l d inside) ∙ rise k l d lt inside
 
     -- the other entries stay as they were
-    pub AreEntries-write : AreEntries es → HasRoom x.lists → IsUsed x.lists → AreEntries (set es i x)
+    pub AreEntries-write : AreEntries es → HasRoom x.lists.value → IsUsed x.lists.value → AreEntries (set es i x)
     AreEntries-write all room used = record {
       rise = rise-write all.rise;
-      room = All-set (λ e. HasRoom e.lists) es i x room all.room;
-      used = All-set (λ e. IsUsed e.lists) es i x used all.used;
+      room = All-set (λ e. HasRoom e.lists.value) es i x room all.room;
+      used = All-set (λ e. IsUsed e.lists.value) es i x used all.used;
     }
 
-    pub AreEntriesBut-write : AreEntries es → HasRoom x.lists → AreEntriesBut (set es i x) i
+    pub AreEntriesBut-write : AreEntries es → HasRoom x.lists.value → AreEntriesBut (set es i x) i
     AreEntriesBut-write all room = record {
       in_range = omega (arith, length-set es i x, found.in_range);
       rise = rise-write all.rise;
-      room = All-set (λ e. HasRoom e.lists) es i x room all.room;
-      used = λ k d apart lt. subst (λ e. IsUsed e.lists) (sym (get_or-set_other es i k x d apart)) (all.used k d (omega (arith, length-set es i x)));
+      room = All-set (λ e. HasRoom e.lists.value) es i x room all.room;
+      used = λ k d apart lt. subst (λ e. IsUsed e.lists.value) (sym (get_or-set_other es i k x d apart)) (all.used k d (omega (arith, length-set es i x)));
     }
 
 module _ (es : List Entry) (key : List ℕ) (i : ℕ) (gap : IsGap es key i) (x : Entry) (is : x.key.0 ≡ key) where
@@ -122,11 +129,11 @@ module _ (es : List Entry) (key : List ℕ) (i : ℕ) (gap : IsGap es key i) (x 
     ]
   ]
 
-  pub AreEntries-new : AreEntries es → HasRoom x.lists → IsUsed x.lists → AreEntries (insert es i x)
+  pub AreEntries-new : AreEntries es → HasRoom x.lists.value → IsUsed x.lists.value → AreEntries (insert es i x)
   AreEntries-new all room used = record {
     rise = rise-new all.rise;
-    room = every (λ e. HasRoom e.lists) room all.room;
-    used = every (λ e. IsUsed e.lists) used all.used;
+    room = every (λ e. HasRoom e.lists.value) room all.room;
+    used = every (λ e. IsUsed e.lists.value) used all.used;
   }
     where
       every : (P : Entry → Type 0) → P x → All P es → All P (insert es i x)
@@ -157,12 +164,12 @@ unused lists none =
     λ j. record { versions = versions j; held = held j; expected = expected j }
 
 -- an entry of no use leaves, and of every key the same is kept
-pub kept-remove : (es : List Entry) (i : ℕ) (e : Entry) → KeysRise es → i < length es → e ≡ get_or es i e → (IsUsed e.lists → ⊥) → (q : List ℕ) → kept (seen (remove es i)) q ≡ kept (seen es) q
+pub kept-remove : (es : List Entry) (i : ℕ) (e : Entry) → KeysRise es → i < length es → e ≡ get_or es i e → (IsUsed e.lists.value → ⊥) → (q : List ℕ) → kept (seen (remove es i)) q ≡ kept (seen es) q
 kept-remove es i e rise in_range read none q =
     let own : (d : Entry) → (get_or es i d).key.0 ≡ e.key.0 = λ d. ap (λ (y : Entry). y.key.0) (get_or_default es i d e in_range ∙ sym read) in
     let found = found_there es rise e.key.0 i in_range (λ d. ap (λ k. key_cmp k e.key.0) (own d) ∙ key_cmp-self e.key.0) in
     IsWith-remove es e.key.0 i found q ∙ elim (cases_Bool (bytes_eq e.key.0 q)) [
-      | inl same ↦ rw same (sym (ap (kept (seen es)) (sym (same_bytes e.key.0 q same)) ∙ kept_at es e.key.0 i found e ∙ ap (λ (x : Entry). kept_of x.lists) (sym read) ∙ unused e.lists none))
+      | inl same ↦ rw same (sym (ap (kept (seen es)) (sym (same_bytes e.key.0 q same)) ∙ kept_at es e.key.0 i found e ∙ ap (λ (x : Entry). kept_of x.lists.value) (sym read) ∙ unused e.lists.value none))
       | inr differs ↦ rw differs refl
     ]
 
@@ -197,13 +204,13 @@ IsWith-same es key i gap q = elim (cases_Bool (bytes_eq key q)) [
 ]
 
 -- an entry is written over with one that keeps the same
-pub seen_same : (es : List Entry) (i : ℕ) (e x : Entry) → i < length es → e ≡ get_or es i e → x.key.0 ≡ e.key.0 → kept_of x.lists ≡ kept_of e.lists → seen (set es i x) ≡ seen es
+pub seen_same : (es : List Entry) (i : ℕ) (e x : Entry) → i < length es → e ≡ get_or es i e → x.key.0 ≡ e.key.0 → kept_of x.lists.value ≡ kept_of e.lists.value → seen (set es i x) ≡ seen es
 seen_same [] i e x lt read key is = absurd (omega arith)
 seen_same (y ∷ es) zero e x lt read key is =
-    let kept_y : kept_of x.lists ≡ kept_of y.lists = is ∙ ap (λ (z : Entry). kept_of z.lists) read in
+    let kept_y : kept_of x.lists.value ≡ kept_of y.lists.value = is ∙ ap (λ (z : Entry). kept_of z.lists.value) read in
     let key_y : x.key.0 ≡ y.key.0 = key ∙ ap (λ (z : Entry). z.key.0) read in
     λ j. (key_y j, kept_y j) ∷ seen es
-seen_same (y ∷ es) (suc i) e x lt read key is = ap (λ l. (y.key.0, kept_of y.lists) ∷ l) (seen_same es i e x (omega arith) read key is)
+seen_same (y ∷ es) (suc i) e x lt read key is = ap (λ l. (y.key.0, kept_of y.lists.value) ∷ l) (seen_same es i e x (omega arith) read key is)
 
 -- a fact stands after any error
 pub on_err_any : {T E P : Type 0} (r : Result T E) → P → OnErr r P
@@ -216,7 +223,7 @@ either (Ok x) ok err f g = f ok
 either (Err e) ok err f g = g err
 
 -- what is read at the place of a key is what the index keeps of it
-pub seen_kept : (index : Index) (held es : List Entry) (key : List ℕ) (i : ℕ) (e : Entry) → index ≡ seen held → es ≡ held → IsAt es key i → e ≡ get_or held i e → kept index key ≡ kept_of e.lists
+pub seen_kept : (index : Index) (held es : List Entry) (key : List ℕ) (i : ℕ) (e : Entry) → index ≡ seen held → es ≡ held → IsAt es key i → e ≡ get_or held i e → kept index key ≡ kept_of e.lists.value
 seen_kept index held es key i e view same found read = ap (λ v. kept v key) view ∙ read_kept held key i (subst (λ l. IsAt l key i) same found) e read
 
 pub seen_nothing : (index : Index) (inside es : List Entry) (key : List ℕ) (i : ℕ) → index ≡ seen inside → es ≡ inside → IsGap es key i → kept index key ≡ nothing

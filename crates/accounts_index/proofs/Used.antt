@@ -13,9 +13,9 @@ something lists used is =
     let expected = ap (λ (k : Kept). length k.expected) is in
     omega (arith, versions, held, expected, used)
 
-each_used : (es : List Entry) → ((k : ℕ) (d : Entry) → k < length es → IsUsed (get_or es k d).lists) → AreUsed (seen es)
+each_used : (es : List Entry) → ((k : ℕ) (d : Entry) → k < length es → IsUsed (get_or es k d).lists.value) → AreUsed (seen es)
 each_used [] used k d lt = absurd (omega arith)
-each_used (e ∷ es) used zero d lt = something e.lists (used 0 e (omega arith))
+each_used (e ∷ es) used zero d lt = something e.lists.value (used 0 e (omega arith))
 each_used (e ∷ es) used (suc k) d lt = each_used es (λ k d lt. used (suc k) d (omega arith)) k d (omega arith)
 
 pub used_seen : (es : List Entry) → AreEntries es → AreUsed (seen es)

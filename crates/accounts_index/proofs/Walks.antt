@@ -44,22 +44,22 @@ module _ (after : Option (List ℕ)) where
   abbrev Above : List Entry → ℕ → Type 0
   Above es i = AllWithin (λ e. is_above after e.key.0 ≡ true) es i (length es)
 
-  pub key_after-drop : (es : List Entry) (i : ℕ) → i ≤ length es → Below es i → Above es i → key_after (seen es) after ≡ option_map (λ e. e.key.0) (find (λ e. nat_lt 0 (length e.lists.list.versions)) (drop i es))
+  pub key_after-drop : (es : List Entry) (i : ℕ) → i ≤ length es → Below es i → Above es i → key_after (seen es) after ≡ option_map (λ e. e.key.0) (find (λ e. nat_lt 0 (length e.lists.value.list.versions)) (drop i es))
   key_after-drop [] zero le below from = refl
   key_after-drop [] (suc i) le below from = absurd (omega arith)
-  key_after-drop (x ∷ es) zero le below from = rw (from 0 x (omega arith) (omega arith)) (elim (cases_Bool (nat_lt 0 (length x.lists.list.versions))) [
+  key_after-drop (x ∷ es) zero le below from = rw (from 0 x (omega arith) (omega arith)) (elim (cases_Bool (nat_lt 0 (length x.lists.value.list.versions))) [
     | inl has ↦ rw has refl
     | inr none ↦ rw none (key_after-drop es zero (omega arith) (λ k d lo hi. absurd (omega arith)) (λ k d lo hi. from (suc k) d (omega arith) (omega arith)))
   ])
   key_after-drop (x ∷ es) (suc i) le below from =
       rw (below 0 x (omega arith) (omega arith)) (key_after-drop es i (omega arith) (λ k d lo hi. below (suc k) d (omega arith) (omega arith)) (λ k d lo hi. from (suc k) d (omega arith) (omega arith)))
 
-  pub crowded_after-drop : (es : List Entry) (i : ℕ) → i ≤ length es → Below es i → Above es i → crowded_after (seen es) after ≡ map (λ e. e.key.0) (filter (λ e. is_crowded e.lists.list.versions) (drop i es))
+  pub crowded_after-drop : (es : List Entry) (i : ℕ) → i ≤ length es → Below es i → Above es i → crowded_after (seen es) after ≡ map (λ e. e.key.0) (filter (λ e. is_crowded e.lists.value.list.versions) (drop i es))
   crowded_after-drop [] zero le below from = refl
   crowded_after-drop [] (suc i) le below from = absurd (omega arith)
   crowded_after-drop (x ∷ es) zero le below from =
       let rest = crowded_after-drop es zero (omega arith) (λ k d lo hi. absurd (omega arith)) (λ k d lo hi. from (suc k) d (omega arith) (omega arith)) in
-      rw (from 0 x (omega arith) (omega arith)) (elim (cases_Bool (is_crowded x.lists.list.versions)) [
+      rw (from 0 x (omega arith) (omega arith)) (elim (cases_Bool (is_crowded x.lists.value.list.versions)) [
         | inl has ↦ rw has (ap (λ l. x.key.0 ∷ l) rest)
         | inr none ↦ rw none rest
       ])
@@ -80,4 +80,4 @@ module _ {X Y : Type 0} (R : Y → Y → Type 0) (f : X → Y) where
       (pairs_map xs (λ i j d lt within. pairs (suc i) (suc j) d (omega (arith, lt)) (omega (arith, within))))
 
 pub seen_rises : (es : List Entry) → KeysRise es → IsOrdered (seen es)
-seen_rises es rise = pairs_map (λ a b. key_cmp a.0 b.0 ≡ Less) (λ e. (e.key.0, kept_of e.lists)) es rise
+seen_rises es rise = pairs_map (λ a b. key_cmp a.0 b.0 ≡ Less) (λ e. (e.key.0, kept_of e.lists.value)) es rise

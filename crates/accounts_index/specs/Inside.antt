@@ -10,7 +10,7 @@ kept_of lists = record { versions = lists.list.versions; held = lists.list.held;
 
 -- the entries with their keys
 abbrev pub seen : List Entry → Index
-seen entries = map (λ e. (e.key.0, kept_of e.lists)) entries
+seen entries = map (λ e. (e.key.0, kept_of e.lists.value)) entries
 
 -- each key is below all later ones
 abbrev pub KeysRise : List Entry → Type 0
@@ -27,12 +27,12 @@ HasRoom lists = length lists.expected.items ≤ lists.list.spare
 -- what holds between calls
 pub record AreEntries (entries : List Entry) : Type 0 where
   pub rise : KeysRise entries
-  pub room : All (λ e. HasRoom e.lists) entries
-  pub used : All (λ e. IsUsed e.lists) entries
+  pub room : All (λ e. HasRoom e.lists.value) entries
+  pub used : All (λ e. IsUsed e.lists.value) entries
 
 -- the same while one entry may be of no use
 pub record AreEntriesBut (entries : List Entry) (place : ℕ) : Type 0 where
   pub in_range : place < length entries
   pub rise : KeysRise entries
-  pub room : All (λ e. HasRoom e.lists) entries
-  pub used : (k : ℕ) (d : Entry) → k ≢ place → k < length entries → IsUsed (slice_index_or entries k d).lists
+  pub room : All (λ e. HasRoom e.lists.value) entries
+  pub used : (k : ℕ) (d : Entry) → k ≢ place → k < length entries → IsUsed (slice_index_or entries k d).lists.value

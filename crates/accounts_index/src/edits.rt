@@ -12,9 +12,6 @@ use slot_list::{Place, SlotList, Version};
 use smallvec::SmallVec;
 use std::alloc::{AllocError, Global};
 
-/// Below so many entries a bin grows by one or two at a time, since most bins stay small.
-const FEW: usize = 8;
-
 /// Puts a version in, in place of the one that the key has in its slot.
 pub fn upsert(
     entries: &mut Vec<Entry>,
@@ -31,13 +28,13 @@ pub fn upsert(
 {
     match find_place(entries, key) {
         Ok(place) => {
-            let lists = &mut entries[place].lists;
+            let lists = &mut *entries[place].lists;
             lists.list.put(version)
         }
         Err(place) => {
             let mut list = SlotList::new(alloc);
             list.put(version)?;
-            insert(entries, place, *key, list, SmallVec::new(alloc))
+            insert(entries, alloc, place, *key, list, SmallVec::new(alloc))
         }
     }
 }
@@ -52,7 +49,7 @@ pub fn drop_version(entries: &mut Vec<Entry>, key: &Key, slot: Slot)
 {
     match find_place(entries, key) {
         Ok(place) => {
-            let lists = &mut entries[place].lists;
+            let lists = &mut *entries[place].lists;
             let _ = lists.list.take(slot);
             drop_unused(entries, place);
         }
@@ -71,19 +68,10 @@ fn drop_unused(entries: &mut Vec<Entry>, place: usize)
     }
 }
 
-/// Makes room for one entry more: for the first alone, and then for two at once.
-fn make_room(entries: &mut Vec<Entry>) -> Result<(), AllocError>
-    ensures { entries.new.items ≡ entries.old.items }
-{
-    if entries.len() < FEW && entries.len() == entries.capacity() {
-        entries.reserve_exact(entries.len().clamp(1, 2))?;
-    }
-    Ok(())
-}
-
 /// A new entry at its place.
 fn insert(
     entries: &mut Vec<Entry>,
+    alloc: Global,
     place: usize,
     key: Key,
     list: SlotList,
@@ -98,8 +86,7 @@ fn insert(
         (record { versions = list.versions; held = list.held; expected = expected.items })) }
     ensures err { OnErr result (seen entries.new.items ≡ seen entries.old.items) }
 {
-    make_room(entries)?;
-    let lists = Lists { list, expected };
+    let lists = Box::new(alloc, Lists { list, expected })?;
     entries.insert(place, Entry { key, lists })?;
     Ok(())
 }
@@ -114,7 +101,7 @@ pub fn rehome(entries: &mut Vec<Entry>, key: &Key, slot: Slot, place: Place)
 {
     match find_place(entries, key) {
         Ok(found) => {
-            let lists = &mut entries[found].lists;
+            let lists = &mut *entries[found].lists;
             lists.list.rehome(slot, place);
         }
         Err(_) => unreachable!(),
@@ -136,7 +123,7 @@ pub fn expect(
 {
     match find_place(entries, key) {
         Ok(place) => {
-            let lists = &mut entries[place].lists;
+            let lists = &mut *entries[place].lists;
             lists.list.room(lists.expected.as_slice().len() + 1)?;
             lists.expected.push(slot)?;
             Ok(())
@@ -146,7 +133,7 @@ pub fn expect(
             list.room(1)?;
             let mut expected = SmallVec::new(alloc);
             expected.push(slot)?;
-            insert(entries, place, *key, list, expected)
+            insert(entries, alloc, place, *key, list, expected)
         }
     }
 }
@@ -159,7 +146,7 @@ pub fn unexpect(entries: &mut Vec<Entry>, key: &Key, slot: Slot)
         IsWith (seen entries.old.items) (seen entries.new.items) key.now.0 (record old { expected = without_slot slot old.expected }) }
 {
     if let Ok(place) = find_place(entries, key) {
-        let lists = &mut entries[place].lists;
+        let lists = &mut *entries[place].lists;
         forget(&mut lists.expected, slot);
         drop_unused(entries, place);
     }
@@ -177,7 +164,7 @@ pub fn hold(entries: &mut Vec<Entry>, key: &Key, slot: Slot)
 {
     match find_place(entries, key) {
         Ok(place) => {
-            let lists = &mut entries[place].lists;
+            let lists = &mut *entries[place].lists;
             lists.list.hold(slot);
             forget(&mut lists.expected, slot);
         }
@@ -198,7 +185,7 @@ pub fn settle(entries: &mut Vec<Entry>, key: &Key, slot: Slot, place: Place)
 {
     match find_place(entries, key) {
         Ok(found) => {
-            let lists = &mut entries[found].lists;
+            let lists = &mut *entries[found].lists;
             lists.list.rehome(slot, place);
             lists.list.hold(slot);
             forget(&mut lists.expected, slot);
@@ -225,7 +212,7 @@ pub fn put_held(
 {
     match find_place(entries, key) {
         Ok(place) => {
-            let lists = &mut entries[place].lists;
+            let lists = &mut *entries[place].lists;
             let expected = lists.expected.as_slice().len();
             lists.list.room(expected + 1)?;
             lists.list.put(version)?;
@@ -236,7 +223,7 @@ pub fn put_held(
             list.room(1)?;
             list.put(version)?;
             list.hold(version.slot);
-            insert(entries, place, *key, list, SmallVec::new(alloc))?;
+            insert(entries, alloc, place, *key, list, SmallVec::new(alloc))?;
             Ok(false)
         }
     }
@@ -250,7 +237,7 @@ pub fn unhold(entries: &mut Vec<Entry>, key: &Key, slot: Slot)
         IsWith (seen entries.old.items) (seen entries.new.items) key.now.0 (record old { held = without_slot slot old.held }) }
 {
     if let Ok(place) = find_place(entries, key) {
-        let lists = &mut entries[place].lists;
+        let lists = &mut *entries[place].lists;
         let _ = lists.list.unhold(slot);
         drop_unused(entries, place);
     }

@@ -6,11 +6,12 @@ use adb_model::Key;
 use slot_list::{Place, SlotList, Version};
 use smallvec::SmallVec;
 
-/// A key with what is kept of it. A bin has few of them, so that an insertion moves little.
+/// A key with what is kept of it, which stands in a box: the keys of a bin are close together, so that a search reads
+/// and an insertion moves little.
 #[derive(Drop)]
 pub struct Entry {
     pub key: Key,
-    pub lists: Lists,
+    pub lists: Box<Lists>,
 }
 
 /// What is kept of a key.
@@ -27,7 +28,7 @@ impl Entry {
 
     /// Whether anything is kept of the key.
     pub fn is_used(&self) -> bool
-        ensures { IsTrue result ↔ IsUsed self.now.lists }
+        ensures { IsTrue result ↔ IsUsed self.now.lists.value }
     {
         !self.lists.list.versions().is_empty()
             || !self.lists.list.held().is_empty()
@@ -35,14 +36,14 @@ impl Entry {
     }
 
     pub fn has_versions(&self) -> bool
-        ensures { result ≡ nat_lt 0 (length self.now.lists.list.versions) }
+        ensures { result ≡ nat_lt 0 (length self.now.lists.value.list.versions) }
     {
         !self.lists.list.versions().is_empty()
     }
 
     /// Whether the key has two or more versions, or a stored one that is a tomb.
     pub fn is_crowded(&self) -> bool
-        ensures { result ≡ is_crowded self.now.lists.list.versions }
+        ensures { result ≡ is_crowded self.now.lists.value.list.versions }
     {
         self.lists.list.versions().len() > 1 || has_stored_tomb(self.lists.list.versions())
     }

@@ -35,7 +35,7 @@ pub fn key_after(entries: &[Entry], after: Option<&Key>) -> Option<Key>
 }
 
 fn first_present(entries: &[Entry]) -> Option<Key>
-    ensures { option_map (λ k. k.0) result ≡ option_map (λ e. e.key.0) (find (λ e. nat_lt 0 (length e.lists.list.versions)) entries.now) }
+    ensures { option_map (λ k. k.0) result ≡ option_map (λ e. e.key.0) (find (λ e. nat_lt 0 (length e.lists.value.list.versions)) entries.now) }
 {
     entries
         .iter()
@@ -65,7 +65,7 @@ fn first_crowded(entries: &[Entry], into: &mut ArrayVec<Key, 256>, most: usize)
     requires few { length into.old.items ≤ most }
     requires most { most ≤ 256 }
     ensures { map (λ k. k.0) into.new.items
-        ≡ take most (map (λ k. k.0) into.old.items ++ map (λ e. e.key.0) (filter (λ e. is_crowded e.lists.list.versions) entries.now)) }
+        ≡ take most (map (λ k. k.0) into.old.items ++ map (λ e. e.key.0) (filter (λ e. is_crowded e.lists.value.list.versions) entries.now)) }
 {
     for entry in entries {
         if into.len() == most {

@@ -91,6 +91,12 @@ no_word line e = ap (λ (ps : List (List ℕ)). take_while counts ps) (sym (piec
   nothing [] e = refl
   nothing (x ∷ xs) e = absurd (omega arith)
 
+-- and so has one without bytes
+pub no_bytes : (line : List ℕ) → length line ≡ 0 → words line ≡ []
+unfolding words
+no_bytes [] e = refl
+no_bytes (b ∷ line) e = absurd (omega arith)
+
 words_unblank : (line : List ℕ) → 0 < length (unblank line) → words line ≡ take_while counts (take (position_or_len blank (unblank line)) (unblank line) ∷ pieces (drop (position_or_len blank (unblank line)) (unblank line)))
 unfolding words
 words_unblank line some = ap (λ (ps : List (List ℕ)). take_while counts ps) (sym (pieces_unblank line) ∙ first_piece (unblank line) (begins_word line some))

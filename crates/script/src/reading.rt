@@ -47,6 +47,11 @@ fn store(alloc: Global, line: &[u8]) -> Result<Order, ReadError>
     let (slot, rest) = number_at(3, line)?;
     let (key, rest) = key_at(4, rest)?;
     let (lamports, rest) = number_at(5, rest)?;
+    // Where no words follow, each that may be left out is.
+    if rest.is_empty() {
+        let account = account(alloc, lamports, [0; 32], false, 0, Vec::new(alloc))?;
+        return Ok(Order::Event(Call::Store { slot, key, account }));
+    }
     let (owner, rest) = owner_at(rest)?;
     let (executable, rest) = executable_at(rest)?;
     let (rent_epoch, rest) = epoch_at(rest)?;

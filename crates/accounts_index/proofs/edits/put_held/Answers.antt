@@ -5,7 +5,7 @@ use Rattle.accounts_index.specs.declared.entry.Entry.{Entry}
 use Rattle.accounts_index.specs.Index.{Kept}
 use Rattle.accounts_index.specs.Inside.{kept_of}
 use Rattle.accounts_index.proofs.Lookups.{kept_gap}
-use Rattle.accounts_index.proofs.Changes.{IsWith-to, read_kept, IsWith-write, seen_same, on_err_any}
+use Rattle.accounts_index.proofs.Changes.{reached, read_reached, IsWith-to, read_kept, IsWith-write, seen_same, on_err_any}
 use Rattle.accounts_index.proofs.edits.put_held.Goals as goal
 
 -- ---- the key is there
@@ -15,11 +15,11 @@ returns-in_err-room-in-Ok-clause-err c =
     let es = c.args.entries.now.items in
     let key = c.args.key.now.0 in
     let found = rw c.deref.ensures.value at c.in-Ok.ensures.found in
-    let e = c.index_mut.result.now in
-    let read = c.index_mut.ensures.value in
-    let lists = e.lists in
-    let now : Entry = record e { lists = record lists { list = c.room.new.self } } in
-    let same : kept_of now.lists ≡ kept_of lists = λ j. record { versions = c.room.ensures.versions j; held = c.room.ensures.held j; expected = lists.expected.items } in
+    let e = reached c.index_mut.result.now c.deref_mut-lists.result.now in
+    let read = read_reached es c.in-Ok.place c.index_mut.result.now c.deref_mut-lists.result.now c.deref_mut-lists.ensures.value c.index_mut.ensures.value in
+    let lists = e.lists.value in
+    let now : Entry = record e { lists = record e.lists { value = record lists { list = c.room.new.self } } } in
+    let same : kept_of now.lists.value ≡ kept_of lists = λ j. record { versions = c.room.ensures.versions j; held = c.room.ensures.held j; expected = lists.expected.items } in
     on_err_any c.from_residual.result (seen_same es c.in-Ok.place e now found.in_range read refl same)
 
 pub returns-in_err-put-in-Ok-clause-err : goal.returns-in_err-put-in-Ok-clause-err
@@ -27,12 +27,12 @@ returns-in_err-put-in-Ok-clause-err c =
     let es = c.args.entries.now.items in
     let key = c.args.key.now.0 in
     let found = rw c.deref.ensures.value at c.in-Ok.ensures.found in
-    let e = c.index_mut.result.now in
-    let read = c.index_mut.ensures.value in
-    let lists = e.lists in
-    let now : Entry = record e { lists = record lists { list = c.put.new.self } } in
+    let e = reached c.index_mut.result.now c.deref_mut-lists.result.now in
+    let read = read_reached es c.in-Ok.place c.index_mut.result.now c.deref_mut-lists.result.now c.deref_mut-lists.ensures.value c.index_mut.ensures.value in
+    let lists = e.lists.value in
+    let now : Entry = record e { lists = record e.lists { value = record lists { list = c.put.new.self } } } in
     let stays : c.put.new.self ≡ c.room.new.self = c.in_err-put-in-Ok.ensures.err in
-    let same : kept_of now.lists ≡ kept_of lists =
+    let same : kept_of now.lists.value ≡ kept_of lists =
     ap (λ (l : KeySlots). kept_of (record lists { list = l })) stays
     ∙ (λ j. record { versions = c.room.ensures.versions j; held = c.room.ensures.held j; expected = lists.expected.items }) in
     on_err_any c.from_residual-in_err-put-in-Ok.result (seen_same es c.in-Ok.place e now found.in_range read refl same)
@@ -42,10 +42,10 @@ returns-in_ok-put-in-Ok-clause-ok c =
     let es = c.args.entries.now.items in
     let key = c.args.key.now.0 in
     let found = rw c.deref.ensures.value at c.in-Ok.ensures.found in
-    let e = c.index_mut.result.now in
-    let read = c.index_mut.ensures.value in
-    let lists = e.lists in
-    let now : Entry = record e { lists = record lists { list = c.keep_held.new.self } } in
+    let e = reached c.index_mut.result.now c.deref_mut-lists.result.now in
+    let read = read_reached es c.in-Ok.place c.index_mut.result.now c.deref_mut-lists.result.now c.deref_mut-lists.ensures.value c.index_mut.ensures.value in
+    let lists = e.lists.value in
+    let now : Entry = record e { lists = record e.lists { value = record lists { list = c.keep_held.new.self } } } in
     let made : c.put.new.self ≡ record c.room.new.self { versions = put c.args.version c.room.new.self.versions } = c.in_ok-put-in-Ok.ensures.ok in
     let versions : c.keep_held.new.self.versions ≡ put c.args.version lists.list.versions =
     c.keep_held.ensures.versions ∙ ap (λ (l : KeySlots). l.versions) made ∙ ap (put c.args.version) c.room.ensures.versions in
@@ -60,9 +60,9 @@ returns-in_ok-put-in-Ok-clause-was c =
     let es = c.args.entries.now.items in
     let key = c.args.key.now.0 in
     let found = rw c.deref.ensures.value at c.in-Ok.ensures.found in
-    let e = c.index_mut.result.now in
-    let read = c.index_mut.ensures.value in
-    let lists = e.lists in
+    let e = reached c.index_mut.result.now c.deref_mut-lists.result.now in
+    let read = read_reached es c.in-Ok.place c.index_mut.result.now c.deref_mut-lists.result.now c.deref_mut-lists.ensures.value c.index_mut.ensures.value in
+    let lists = e.lists.value in
     let made : c.put.new.self ≡ record c.room.new.self { versions = put c.args.version c.room.new.self.versions } = c.in_ok-put-in-Ok.ensures.ok in
     c.keep_held.ensures.there
     ∙ ap (λ (l : KeySlots). among c.args.version.slot l.held) made

@@ -6,7 +6,7 @@ use Rattle.accounts_index.specs.declared.entry.Entry.{Entry}
 use Rattle.accounts_index.specs.Index.{Kept}
 use Rattle.accounts_index.specs.Inside.{kept_of, HasRoom, IsUsed}
 use Rattle.accounts_index.proofs.Lookups.{kept_gap}
-use Rattle.accounts_index.proofs.Changes.{IsWith-to, read_kept, read_room, IsWith-write, AreEntries-write, without_there, some_with}
+use Rattle.accounts_index.proofs.Changes.{reached, read_reached, IsWith-to, read_kept, read_room, IsWith-write, AreEntries-write, without_there, some_with}
 use Rattle.view_sets.specs.Slots.{among}
 use Rattle.accounts_index.proofs.edits.settle.Goals as goal
 
@@ -15,8 +15,8 @@ rehome-requires c =
     let es = c.args.entries.now.items in
     let key = c.args.key.now.0 in
     let found = rw c.deref.ensures.value at c.in-Ok.ensures.found in
-    let e = c.index_mut.result.now in
-    let read = c.index_mut.ensures.value in
+    let e = reached c.index_mut.result.now c.deref_mut-lists.result.now in
+    let read = read_reached es c.in-Ok.found c.index_mut.result.now c.deref_mut-lists.result.now c.deref_mut-lists.ensures.value c.index_mut.ensures.value in
     rw (read_kept es key c.in-Ok.found found e read) at c.requires.there
 
 pub hold-requires-clause-room : goal.hold-requires-clause-room
@@ -24,9 +24,9 @@ hold-requires-clause-room c =
     let es = c.args.entries.now.items in
     let key = c.args.key.now.0 in
     let found = rw c.deref.ensures.value at c.in-Ok.ensures.found in
-    let e = c.index_mut.result.now in
-    let read = c.index_mut.ensures.value in
-    let lists = e.lists in
+    let e = reached c.index_mut.result.now c.deref_mut-lists.result.now in
+    let read = read_reached es c.in-Ok.found c.index_mut.result.now c.deref_mut-lists.result.now c.deref_mut-lists.ensures.value c.index_mut.ensures.value in
+    let lists = e.lists.value in
     let expected = rw (read_kept es key c.in-Ok.found found e read) at c.requires.expected in
     omega (arith, ap (λ (l : KeySlots). l.spare) c.rehome.ensures, without_there c.args.slot lists.expected.items expected, read_room es key c.in-Ok.found found e read c.requires.entries)
 
@@ -35,8 +35,8 @@ hold-requires-clause-absent c =
     let es = c.args.entries.now.items in
     let key = c.args.key.now.0 in
     let found = rw c.deref.ensures.value at c.in-Ok.ensures.found in
-    let e = c.index_mut.result.now in
-    let read = c.index_mut.ensures.value in
+    let e = reached c.index_mut.result.now c.deref_mut-lists.result.now in
+    let read = read_reached es c.in-Ok.found c.index_mut.result.now c.deref_mut-lists.result.now c.deref_mut-lists.ensures.value c.index_mut.ensures.value in
     let absent = rw (read_kept es key c.in-Ok.found found e read) at c.requires.absent in
     ap (λ (l : KeySlots). among c.args.slot l.held) c.rehome.ensures ∙ absent
 
@@ -45,10 +45,10 @@ returns-clause-kept c =
     let es = c.args.entries.now.items in
     let key = c.args.key.now.0 in
     let found = rw c.deref.ensures.value at c.in-Ok.ensures.found in
-    let e = c.index_mut.result.now in
-    let read = c.index_mut.ensures.value in
-    let lists = e.lists in
-    let now : Entry = record e { lists = record lists { list = c.hold.new.self; expected = c.forget.new.slots } } in
+    let e = reached c.index_mut.result.now c.deref_mut-lists.result.now in
+    let read = read_reached es c.in-Ok.found c.index_mut.result.now c.deref_mut-lists.result.now c.deref_mut-lists.ensures.value c.index_mut.ensures.value in
+    let lists = e.lists.value in
+    let now : Entry = record e { lists = record e.lists { value = record lists { list = c.hold.new.self; expected = c.forget.new.slots } } } in
     let held = ap (λ (l : KeySlots). kept_of (record lists { list = l; expected = c.forget.new.slots })) c.hold.ensures in
     let moved = ap (λ (l : KeySlots). record { versions = l.versions; held = with_slot c.args.slot l.held; expected = c.forget.new.slots.items }) c.rehome.ensures in
     let left = ap (λ (x : List _). record { versions = rehomed c.args.slot c.args.place lists.list.versions; held = with_slot c.args.slot lists.list.held; expected = x }) c.forget.ensures in
@@ -60,14 +60,14 @@ returns-clause-entries c =
     let es = c.args.entries.now.items in
     let key = c.args.key.now.0 in
     let found = rw c.deref.ensures.value at c.in-Ok.ensures.found in
-    let e = c.index_mut.result.now in
-    let read = c.index_mut.ensures.value in
-    let lists = e.lists in
+    let e = reached c.index_mut.result.now c.deref_mut-lists.result.now in
+    let read = read_reached es c.in-Ok.found c.index_mut.result.now c.deref_mut-lists.result.now c.deref_mut-lists.ensures.value c.index_mut.ensures.value in
+    let lists = e.lists.value in
     let expected = rw (read_kept es key c.in-Ok.found found e read) at c.requires.expected in
-    let now : Entry = record e { lists = record lists { list = c.hold.new.self; expected = c.forget.new.slots } } in
-    let room : HasRoom now.lists = omega (arith, ap (λ (l : KeySlots). l.spare) c.hold.ensures, ap (λ (l : KeySlots). l.spare) c.rehome.ensures, ap length c.forget.ensures, without_there c.args.slot lists.expected.items expected, read_room es key c.in-Ok.found found e read c.requires.entries) in
+    let now : Entry = record e { lists = record e.lists { value = record lists { list = c.hold.new.self; expected = c.forget.new.slots } } } in
+    let room : HasRoom now.lists.value = omega (arith, ap (λ (l : KeySlots). l.spare) c.hold.ensures, ap (λ (l : KeySlots). l.spare) c.rehome.ensures, ap length c.forget.ensures, without_there c.args.slot lists.expected.items expected, read_room es key c.in-Ok.found found e read c.requires.entries) in
     let held = c.rehome.new.self.held in
-    let used : IsUsed now.lists = omega (arith, ap (λ (l : KeySlots). length l.held) c.hold.ensures, some_with (filter (λ s. ltb s c.args.slot) held) (filter (λ s. ltb c.args.slot s) held) c.args.slot) in
+    let used : IsUsed now.lists.value = omega (arith, ap (λ (l : KeySlots). length l.held) c.hold.ensures, some_with (filter (λ s. ltb s c.args.slot) held) (filter (λ s. ltb c.args.slot s) held) c.args.slot) in
     AreEntries-write es key c.in-Ok.found found e read now refl c.requires.entries room used
 
 -- the key is there

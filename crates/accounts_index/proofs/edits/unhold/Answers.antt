@@ -3,7 +3,7 @@ use Rattle.slot_list.specs.Versions.{without_slot}
 use Rattle.accounts_index.specs.declared.entry.Entry.{Entry}
 use Rattle.accounts_index.specs.Index.{Kept}
 use Rattle.accounts_index.proofs.Lookups.{kept_gap}
-use Rattle.accounts_index.proofs.Changes.{IsWith-to, IsWith-same, read_kept, IsWith-write}
+use Rattle.accounts_index.proofs.Changes.{reached, read_reached, IsWith-to, IsWith-same, read_kept, IsWith-write}
 use Rattle.accounts_index.proofs.edits.unhold.Goals as goal
 
 pub returns-in-Ok-clause-kept : goal.returns-in-Ok-clause-kept
@@ -11,10 +11,10 @@ returns-in-Ok-clause-kept c = λ q.
     let es = c.args.entries.now.items in
     let key = c.args.key.now.0 in
     let found = rw c.deref.ensures.value at c.in-Ok.ensures.found in
-    let e = c.index_mut.result.now in
-    let read = c.index_mut.ensures.value in
-    let lists = e.lists in
-    let now : Entry = record e { lists = record lists { list = c.unhold.new.self } } in
+    let e = reached c.index_mut.result.now c.deref_mut-lists.result.now in
+    let read = read_reached es c.in-Ok.place c.index_mut.result.now c.deref_mut-lists.result.now c.deref_mut-lists.ensures.value c.index_mut.ensures.value in
+    let lists = e.lists.value in
+    let now : Entry = record e { lists = record e.lists { value = record lists { list = c.unhold.new.self } } } in
     let made = ap (λ (x : List _). record { versions = c.unhold.new.self.versions; held = x; expected = lists.expected.items }) c.unhold.ensures.held
     ∙ ap (λ (x : List _). record { versions = x; held = without_slot c.args.slot lists.list.held; expected = lists.expected.items }) c.unhold.ensures.versions in
     c.drop_unused.ensures.kept q ∙ IsWith-to _ _ key _ _ (IsWith-write es key c.in-Ok.place found e read now refl)

@@ -6,7 +6,7 @@ use Rattle.accounts_index.specs.declared.entry.Entry.{Entry}
 use Rattle.accounts_index.specs.Index.{Kept}
 use Rattle.accounts_index.specs.Inside.{kept_of, HasRoom, IsUsed}
 use Rattle.accounts_index.proofs.Lookups.{kept_gap}
-use Rattle.accounts_index.proofs.Changes.{IsWith-to, read_kept, read_room, read_used, IsWith-write, AreEntries-write, seen_same, some_with, either}
+use Rattle.accounts_index.proofs.Changes.{reached, read_reached, IsWith-to, read_kept, read_room, read_used, IsWith-write, AreEntries-write, seen_same, some_with, either}
 use Rattle.accounts_index.proofs.edits.upsert.Goals as goal
 
 -- ---- the key is there
@@ -16,10 +16,10 @@ returns-in-Ok-clause-ok c =
     let es = c.args.entries.now.items in
     let key = c.args.key.now.0 in
     let found = rw c.deref.ensures.value at c.in-Ok.ensures.found in
-    let e = c.index_mut.result.now in
-    let read = c.index_mut.ensures.value in
-    let lists = e.lists in
-    let now : Entry = record e { lists = record lists { list = c.put.new.self } } in
+    let e = reached c.index_mut.result.now c.deref_mut-lists.result.now in
+    let read = read_reached es c.in-Ok.place c.index_mut.result.now c.deref_mut-lists.result.now c.deref_mut-lists.ensures.value c.index_mut.ensures.value in
+    let lists = e.lists.value in
+    let now : Entry = record e { lists = record e.lists { value = record lists { list = c.put.new.self } } } in
     on_ok_weaker c.put.result (λ made.
     IsWith-to _ _ key _ _ (IsWith-write es key c.in-Ok.place found e read now refl)
     (ap (λ (l : KeySlots). kept_of (record lists { list = l })) made
@@ -29,10 +29,10 @@ pub returns-in-Ok-clause-err : goal.returns-in-Ok-clause-err
 returns-in-Ok-clause-err c =
     let es = c.args.entries.now.items in
     let found = rw c.deref.ensures.value at c.in-Ok.ensures.found in
-    let e = c.index_mut.result.now in
-    let read = c.index_mut.ensures.value in
-    let lists = e.lists in
-    let now : Entry = record e { lists = record lists { list = c.put.new.self } } in
+    let e = reached c.index_mut.result.now c.deref_mut-lists.result.now in
+    let read = read_reached es c.in-Ok.place c.index_mut.result.now c.deref_mut-lists.result.now c.deref_mut-lists.ensures.value c.index_mut.ensures.value in
+    let lists = e.lists.value in
+    let now : Entry = record e { lists = record e.lists { value = record lists { list = c.put.new.self } } } in
     on_err_weaker c.put.result (λ same.
     seen_same es c.in-Ok.place e now found.in_range read refl
     (ap (λ (l : KeySlots). kept_of (record lists { list = l })) same)) c.put.ensures.err
@@ -42,9 +42,9 @@ returns-in-Ok-clause-replaces c =
     let es = c.args.entries.now.items in
     let key = c.args.key.now.0 in
     let found = rw c.deref.ensures.value at c.in-Ok.ensures.found in
-    let e = c.index_mut.result.now in
-    let read = c.index_mut.ensures.value in
-    let lists = e.lists in
+    let e = reached c.index_mut.result.now c.deref_mut-lists.result.now in
+    let read = read_reached es c.in-Ok.place c.index_mut.result.now c.deref_mut-lists.result.now c.deref_mut-lists.ensures.value c.index_mut.ensures.value in
+    let lists = e.lists.value in
     rw (read_kept es key c.in-Ok.place found e read) c.put.ensures.replaces
 
 pub returns-in-Ok-clause-entries : goal.returns-in-Ok-clause-entries
@@ -52,15 +52,15 @@ returns-in-Ok-clause-entries c =
     let es = c.args.entries.now.items in
     let key = c.args.key.now.0 in
     let found = rw c.deref.ensures.value at c.in-Ok.ensures.found in
-    let e = c.index_mut.result.now in
-    let read = c.index_mut.ensures.value in
-    let lists = e.lists in
-    let now : Entry = record e { lists = record lists { list = c.put.new.self } } in
+    let e = reached c.index_mut.result.now c.deref_mut-lists.result.now in
+    let read = read_reached es c.in-Ok.place c.index_mut.result.now c.deref_mut-lists.result.now c.deref_mut-lists.ensures.value c.index_mut.ensures.value in
+    let lists = e.lists.value in
+    let now : Entry = record e { lists = record e.lists { value = record lists { list = c.put.new.self } } } in
     let had_room = read_room es key c.in-Ok.place found e read c.requires in
-    let room : HasRoom now.lists = either c.put.result c.put.ensures.ok c.put.ensures.err
+    let room : HasRoom now.lists.value = either c.put.result c.put.ensures.ok c.put.ensures.err
     (λ made. omega (arith, ap (λ (l : KeySlots). l.spare) made, had_room)) (λ same. omega (arith, ap (λ (l : KeySlots). l.spare) same, had_room)) in
     let had_use = read_used es key c.in-Ok.place found e read c.requires in
-    let used : IsUsed now.lists = either c.put.result c.put.ensures.ok c.put.ensures.err
+    let used : IsUsed now.lists.value = either c.put.result c.put.ensures.ok c.put.ensures.err
     (λ made. omega (arith, ap (λ (l : KeySlots). length l.versions) made, some_with (filter (λ v. ltb v.slot c.args.version.slot) lists.list.versions) (filter (λ v. ltb c.args.version.slot v.slot) lists.list.versions) c.args.version))
     (λ same. omega (arith, ap (λ (l : KeySlots). length l.versions + length l.held) same, had_use)) in
     AreEntries-write es key c.in-Ok.place found e read now refl c.requires room used

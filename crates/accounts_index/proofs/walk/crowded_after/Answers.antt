@@ -7,7 +7,7 @@ pub returns-clause-first : goal.returns-clause-first
 returns-clause-first c =
     let shown = map (λ k. k.0) c.args.into.now.items in
     c.first_crowded.ensures
-    ∙ ap (λ es. take c.args.most (shown ++ map (λ e. e.key.0) (filter (λ e. is_crowded e.lists.list.versions) es))) (take_rest c.args.entries.now c.start_after-start.result)
+    ∙ ap (λ es. take c.args.most (shown ++ map (λ e. e.key.0) (filter (λ e. is_crowded e.lists.value.list.versions) es))) (take_rest c.args.entries.now c.start_after-start.result)
     ∙ ap (λ keys. take c.args.most (shown ++ keys)) (sym (crowded_after-drop (option_map (λ k. k.now.0) c.args.after) c.args.entries.now c.start_after-start.result c.start_after-start.ensures.within c.start_after-start.ensures.before c.start_after-start.ensures.from))
 
 pub returns-clause-rise : goal.returns-clause-rise

@@ -5,7 +5,7 @@ use Rattle.accounts_index.proofs.walk.key_after.Goals as goal
 pub returns-clause-first : goal.returns-clause-first
 returns-clause-first c =
     c.first_present.ensures
-    ∙ ap (λ es. option_map (λ e. e.key.0) (find (λ e. nat_lt 0 (length e.lists.list.versions)) es)) (take_rest c.args.entries.now c.start_after-start.result)
+    ∙ ap (λ es. option_map (λ e. e.key.0) (find (λ e. nat_lt 0 (length e.lists.value.list.versions)) es)) (take_rest c.args.entries.now c.start_after-start.result)
     ∙ sym (key_after-drop (option_map (λ k. k.now.0) c.args.after) c.args.entries.now c.start_after-start.result c.start_after-start.ensures.within c.start_after-start.ensures.before c.start_after-start.ensures.from)
 
 pub returns-clause-rise : goal.returns-clause-rise

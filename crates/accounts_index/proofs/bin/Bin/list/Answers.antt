@@ -1,10 +1,10 @@
 use Rattle.std.proofs.Common.{sym, ap}
-use Rattle.accounts_index.proofs.Changes.{seen_kept, seen_nothing}
+use Rattle.accounts_index.proofs.Changes.{reached, read_reached, seen_kept, seen_nothing}
 use Rattle.accounts_index.proofs.bin.Bin.list.Goals as goal
 
 pub returns-in-Ok : goal.returns-in-Ok
 returns-in-Ok c =
-    let kept = seen_kept c.args.self.now c.self.inside.entries.items c.deref.result.now c.args.key.now.0 c.in-Ok.place c.index.result.now (sym c.self.view_is) c.deref.ensures.value c.in-Ok.ensures.found c.index.ensures in
+    let kept = seen_kept c.args.self.now c.self.inside.entries.items c.deref.result.now c.args.key.now.0 c.in-Ok.place (reached c.index.result.now c.deref-in-Ok.result.now) (sym c.self.view_is) c.deref.ensures.value c.in-Ok.ensures.found (read_reached c.self.inside.entries.items c.in-Ok.place c.index.result.now c.deref-in-Ok.result.now c.deref-in-Ok.ensures c.index.ensures) in
     (ap (λ k. k.versions) (sym kept), ap (λ k. k.held) (sym kept))
 
 pub returns-in-Err : goal.returns-in-Err
