@@ -6,6 +6,9 @@ use crate::hex_digits::read_pairs;
 use crate::hex_text::push_piece;
 use std::alloc::{AllocError, Global};
 
+/// The value whose bytes are all zero.
+const ZEROS: [u8; 32] = [0; 32];
+
 /// The 32-byte value that a word is: an even number of 2 to 64 hexadecimal digits of either case;
 /// zero bytes follow.
 #[tactic(auto, unfolding(crate::specs::Keys::key_of))]
@@ -53,6 +56,10 @@ pub fn push_key(text: &mut String, key: &[u8; 32]) -> Result<(), AllocError>
     ensures pushed { OnOk result (string_bytes text.new ≡ string_bytes text.old ++ keys.key_text key.now) }
     ensures kept { OnErr result (string_bytes text.new ≡ string_bytes text.old) }
 {
+    // Most owners.
+    if key.as_slice() == ZEROS.as_slice() {
+        return text.push_str("00");
+    }
     let (printed, _) = key.split_at(printed_len(key));
     push_piece(text, printed)
 }

@@ -41,6 +41,10 @@ pub fn read_number(word: &[u8]) -> Option<u64>
 pub fn push_number(text: &mut String, n: u64) -> Result<(), AllocError>
     ensures { OnOk result (string_bytes text.new ≡ string_bytes text.old ++ decimal n) }
 {
+    // One digit needs no buffer.
+    if n < 10 {
+        return text.push(char::from(b'0' + n as u8));
+    }
     let mut buffer = Buffer::new();
     text.push_str(buffer.format(n))
 }

@@ -96,9 +96,16 @@ fn numbers_are_read_and_printed(rt: HostRuntime) -> Result<(), Fail> {
     ] {
         assert!(rt; number_text(alloc, number)?.as_str() == text);
     }
-    let mut text = String::from_str(alloc, "root ")?;
-    push_number(&mut text, 700)?;
-    assert!(rt; text.as_str() == "root 700");
+    for (number, line) in [
+        (0, "root 0"),
+        (9, "root 9"),
+        (10, "root 10"),
+        (700, "root 700"),
+    ] {
+        let mut text = String::from_str(alloc, "root ")?;
+        push_number(&mut text, number)?;
+        assert!(rt; text.as_str() == line);
+    }
     Ok(())
 }
 
