@@ -22,7 +22,7 @@ use Rattle.adb_model.specs.Sound.{IsSound}
 use Rattle.accounts_index.specs.Index.{is_above}
 use Rattle.book_parts.specs.Keys.{IsAbsent, IsNextKey}
 use Rattle.adb.specs.Opening.{IsBelow, AreAnswersBelow, line_of, answer_line}
-use Rattle.adb.proofs.Loads.{answer_is}
+use Rattle.adb.proofs.AnswerKeys.{answer_key}
 
 -- ---- the order of keys
 
@@ -133,7 +133,7 @@ module _ (absent : AbsentAnswers) (m : State) (sound : IsSound m) (slot : ℕ) (
       pub one_more : (o : Option Stored) → answer m (at_root slot) key ≡ o → AreAnswersBelow next m slot (with_answer found o)
       one_more None at = record { rise = a.rise; below = still_below; each = a.each; all = gone_through None at }
       one_more (Some t) at =
-          let own : t.key ≡ key = (answer_is m (at_root slot) key t at).key_is in
+          let own : t.key ≡ key = answer_key m (at_root slot) key t at in
           record {
             rise = pairs_one_more (λ x y. key_cmp x.key y.key ≡ Less) found t a.rise (λ k d within. subst (λ (q : List ℕ). key_cmp (get_or found k d).key q ≡ Less) (sym own) (a.below k d within));
             below = All-append (λ x. IsBelow x.key next) found (t ∷ []) still_below (all_one (λ x. IsBelow x.key next) t (subst (λ (q : List ℕ). IsBelow q next) (sym own) under_next));

@@ -1,29 +1,17 @@
 -- The lines of a snapshot that was opened.
-use Rattle.std.proofs.Common.{◌≡◌, ℕ, ◌≤◌, List, [], length, flat_map, Option, Result, Ok, Err, OnOk, OnErr, refl, sym, subst, inl, inr, arith}
+use Rattle.std.proofs.Common.{◌≡◌, ℕ, List, length, flat_map, Option, Result, Ok, Err, OnOk, OnErr, sym, subst, inl, inr}
 use Rattle.std.specs.Io.KnownBytes.{Appends}
 use Rattle.std.proofs.KnownBytes.{Appends-trans}
 use Rattle.std.proofs.Math.Seq.{take-length}
 use Rattle.stream_io.specs.Stream.{AppendsFront}
 use Rattle.adb_model.specs.State.{Stored, State}
-use Rattle.adb_model.specs.Opened.{Image, opened}
+use Rattle.adb_model.specs.Opened.{opened}
 use Rattle.dir_io.specs.Files.{Files}
-use Rattle.pass_pins.specs.Pins.{Pins}
 use Rattle.book_parts.specs.Parts.{Parts}
-use Rattle.book_parts.specs.Pins.{HoldsPins}
-use Rattle.book_parts.specs.Stands.{Stands}
 use Rattle.snap_open.specs.Opening.{OpenedFrom}
 use Rattle.script.specs.Said.{default_budget, open_line}
-use Rattle.adb.specs.Opening.{IsReadable, AreAnswers, AreAnswersBelow, line_of, ListedAll, ListedFront, ListsAll, ListsFront}
+use Rattle.adb.specs.Opening.{AreAnswers, AreAnswersBelow, line_of, ListedAll, ListedFront, ListsAll, ListsFront}
 use Rattle.adb.proofs.Listed.{front_after}
-
--- a pass that has nothing pinned reads the book that was opened
-pub readable_opened : (p : Parts) (pins : Pins) (budget slot max_root : ℕ) (images : List Image) (more : List ℕ) → pins ≡ record { pass = 1; pins = [] } → max_root ≡ slot
-    → Stands p (opened budget slot images more) [] → IsReadable p pins max_root (opened budget slot images more) []
-readable_opened p pins budget slot max_root images more no_pins at st =
-    let m = opened budget slot images more in
-    let held : HoldsPins (record { pass = 1; pins = [] }) m = record { pass = (omega arith, omega arith); each = λ id. refl; count = refl } in
-    let upto : m.cleaned ≤ max_root = omega (arith, at) in
-    subst (λ (q : Pins). IsReadable p q max_root m []) (sym no_pins) (record { stands = st; held = held; none = refl; upto = upto })
 
 module _ (m : State) (name : List ℕ) (slot max_root : ℕ) (at : max_root ≡ slot) (a b c : Option (List ℕ)) (line : List ℕ) (is : line ≡ open_line name slot) (first : Appends a b line) where
   opens : Appends a b (open_line name slot)

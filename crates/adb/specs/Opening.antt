@@ -1,27 +1,14 @@
 -- The accounts that a snapshot has.
-use Rattle.std.specs.Prelude.{◌≡◌, ◌≢◌, ◌⊎◌, ℕ, ◌≤◌, List, [], ◌++◌, Option, Some, None, option_map, IfSome, IfErr, OnOk, Result, All, AllPairs, Contains, ⊤, flat_map}
+use Rattle.std.specs.Prelude.{◌≡◌, ◌≢◌, ◌⊎◌, ℕ, ◌≤◌, List, [], ◌++◌, Option, Some, None, IfSome, IfErr, OnOk, Result, All, AllPairs, Contains, ⊤, flat_map}
 use Rattle.std.specs.declared.cmp.Ordering.TheVariants.{Less}
 use Rattle.std.specs.Io.KnownBytes.{Appends, Keeps}
 use Rattle.stream_io.specs.Stream.{Rose, AppendsFront}
-use Rattle.adb_model.specs.Account.{Account}
 use Rattle.adb_model.specs.State.{Stored, State}
 use Rattle.adb_model.specs.Opened as machine
-use Rattle.adb_model.specs.History.{state_after}
-use Rattle.adb_model.specs.Call.{Event, Load}
 use Rattle.adb_model.specs.Laws.{at_root}
 use Rattle.adb_model.specs.Load.{answer}
 use Rattle.adb_model.specs.Reclaimable.{key_cmp}
 use Rattle.dir_io.specs.Files.{Files}
-use Rattle.pass_pins.specs.Pins.{Pins}
-use Rattle.book_parts.specs.Parts.{Parts}
-use Rattle.book_parts.specs.Pins.{HoldsPins}
-use Rattle.book_parts.specs.Stands.{Stands, AfterWithPins}
-use Rattle.vec_scan.specs.Seal.{row_there}
-use Rattle.book.specs.declared.loading.Found.{Found}
-use Rattle.book.specs.declared.loading.FoundAt.{FoundAt}
-use Rattle.book.specs.declared.loading.FoundAt.TheVariants.{Cached, Stored as InImage}
-use Rattle.book.specs.Pinned.{IsThere, pins_for}
-use Rattle.book.specs.Replies.{found_at}
 use Rattle.script.specs.Text.{account_line}
 use Rattle.script.specs.Said.{default_budget, open_line}
 use Rattle.replay.specs.declared.stops.Stop.{Stop}
@@ -96,26 +83,7 @@ abbrev pub answer_line : Option Stored → List ℕ
 answer_line None = []
 answer_line (Some t) = line_of t
 
--- ---- how they are read from a book
-
--- the book stands for a history, after which the pass in hand has nothing pinned, and the views of this slot are not too old
-pub record IsReadable (p : Parts) (pins : Pins) (slot : ℕ) (start : State) (history : List Event) : Type 0 where
-  pub stands : Stands p start history
-  pub held : HoldsPins pins (state_after start history)
-  pub none : pins.pins ≡ []
-  pub upto : (state_after start history).cleaned ≤ slot
-
--- the account that was found, in the write cache or in an image
-abbrev pub account_at : FoundAt → Option Account
-account_at (Cached account) = Some account.value
-account_at (InImage id sealed offset) = option_map (λ r. r.account) (row_there sealed.value.rows offset)
-
--- after a load that found this, the book stands for the history with it, and the pass has its storage pinned and nothing else
-pub record HasFound (p : Parts) (pins : Pins) (found : Found) (slot : ℕ) (key : List ℕ) (start : State) (history : List Event) : Type 0 where
-  pub after : AfterWithPins p pins start history (Load (at_root slot) key) (found_at found.slot found.at)
-  pub there : IsThere key found.at
-  pub one : pins ≡ pins_for found.at (record pins { pins = [] })
-  pub upto : (state_after start history).cleaned ≤ slot
+-- ---- how the command ends
 
 -- the sink's count rose where the sink failed, and stands still where memory was wanted
 abbrev pub StopCause : ℕ → ℕ → Stop → Type 0

@@ -12,3 +12,4 @@ mod NextSlots
 mod SnapImages
 mod SnapPins
 mod SnapRefusals
+mod Told

@@ -1,10 +1,11 @@
-ghost use Rattle.std.specs.Prelude.{◌≡◌, ◌<◌, ◌≤◌, ℕ, List, [], length, map, Some, option_map, IfOk, IfErr, IfSome};
+ghost use Rattle.std.specs.Prelude.{◌≡◌, ◌<◌, ◌≤◌, ◌↔◌, ℕ, List, [], length, map, Some, option_map, IfOk, IfErr, IsErr, IfSome};
 ghost use Rattle.accounts_index.specs.Index.{crowded_after};
 ghost use Rattle.adb_model.specs.State.{State, fresh};
 ghost use Rattle.adb_model.specs.Opened.{opened};
 ghost use Rattle.adb_model.specs.Call as machine;
 ghost use Rattle.adb_model.specs.History.{state_after, IsPass};
 ghost use Rattle.adb_model.specs.Laws.{ShowLive};
+ghost use Rattle.adb_model.specs.Load.{answer};
 ghost use Rattle.adb_model.specs.Seen.{counts_of};
 ghost use Rattle.append_vec.specs.Filled.{Fills};
 ghost use Rattle.flush_plan.specs.Jobs.{IsOpenJob};
@@ -18,16 +19,17 @@ ghost use Rattle.vec_scan.specs.Shown.{shown, stored};
 ghost use Rattle.pass_pins.specs.Pins.{without_one};
 ghost use Rattle.book.specs.Replies.{store_reply, root_reply, purge_reply, load_reply, unpin_reply, lease_reply, end_lease_reply, raise_reply, reclaim_reply, flush_reply, shrink_reply, shrink_end_reply, snap_reply};
 ghost use Rattle.open_plan.specs.Causes.{IsWhyNotRebuilt};
+ghost use Rattle.book.specs.Answers.{told};
 ghost use Rattle.book.specs.Pinned.{IsThere, pins_after};
 
 use crate::flushing::{spent, why_not};
 use crate::leasing::{self, Lease, why_not_raised};
-use crate::loading::{Found, FoundAt, latest};
+use crate::loading::{Answer, Found, FoundAt, latest};
 use crate::pinning::{Cells, Held, pin};
 use crate::purging::leave;
 use crate::refusals::{
     FlushRefusal, LeaseRefusal, LoadRefusal, NotLeased, NotPinned, RaiseRefusal, RootRefusal,
-    Rooted, ShrinkDone, ShrinkRefusal, SnapRefusal, StoreRefusal,
+    Rooted, ShrinkDone, ShrinkRefusal, SnapRefusal, StoreRefusal, ViewTooOld,
 };
 use crate::rooting::rooted_by;
 use crate::shrinking::{no_id_for, why_not_shrunk};
@@ -37,10 +39,10 @@ use accounts_index::AccountsIndex;
 use adb_model::{Account, Key, Slot, Stats, View};
 use append_vec::{Filled, filled_rows_are_the_same};
 use book_parts::{
-    flush_begin_stands, flush_end_stands, lease_stands, load_stands, new_parts_stand,
-    next_key_stands, purge_stands, raise_stands, reclaim_stands, recycle_stands, root_stands,
-    shrink_begin_stands, shrink_end_stands, snap_begin_stands, snap_end_stands, stats_stand,
-    store_stands, stored_load_stands, sums_fit, unpin_stands,
+    flush_begin_stands, flush_end_stands, latest_versions_answer, lease_stands, load_stands,
+    new_parts_stand, next_key_stands, purge_stands, raise_stands, reclaim_stands, recycle_stands,
+    root_stands, shrink_begin_stands, shrink_end_stands, snap_begin_stands, snap_end_stands,
+    stats_stand, store_stands, stored_load_stands, sums_fit, unpin_stands,
 };
 use cell_table::CellTable;
 use flush_plan::FlushJob;
@@ -259,6 +261,52 @@ impl Book {
                 Ok(Some(Found {
                     slot: version.slot,
                     at: FoundAt::Stored { id, sealed, offset },
+                }))
+            }
+        }
+    }
+
+    /// What a view sees of a key, read where it stands while the book is held still: `None` where it sees no
+    /// account. Nothing is pinned, and no memory is taken.
+    ///
+    /// # Errors
+    /// `ViewTooOld` exactly where the view's greatest root is below the slot up to which was cleaned.
+    pub fn peek(&self, view: &View, key: &Key) -> Result<Option<Answer<'_>>, ViewTooOld>
+        ensures answered { (m0 : State) (h : List machine.Event) → Stands self.now m0 h
+            → IfOk result (λ found. option_map (told key.now.0) found ≡ answer (state_after m0 h) view.now key.now.0) }
+        ensures too_old { IsErr result ↔ (view.now.max_root < self.now.cleaned) }
+        ensures refusal { IfErr result (λ refusal. refusal ≡ record { max_root = view.now.max_root; cleaned = self.now.cleaned }) }
+    {
+        load_stands();
+        stored_load_stands();
+        latest_versions_answer();
+        let max_root = view.max_root();
+        if max_root < self.cleaned {
+            let cleaned = self.cleaned;
+            return Err(ViewTooOld { max_root, cleaned });
+        }
+        let Some(version) = latest(&self.index, &self.roots, view, key) else {
+            return Ok(None);
+        };
+        if version.tomb {
+            return Ok(None);
+        }
+        let slot = version.slot;
+        match version.place {
+            Place::Cached => match self.cache.get(slot, key) {
+                Some(account) => Ok(Some(Answer {
+                    slot,
+                    head: account.head(),
+                    data: account.data(),
+                })),
+                None => unreachable!(),
+            },
+            Place::Stored { cell, offset } => {
+                let record = self.cells.get(cell).record_at(offset);
+                Ok(Some(Answer {
+                    slot,
+                    head: record.head,
+                    data: record.body,
                 }))
             }
         }

@@ -24,10 +24,10 @@ mod storing;
 mod tests;
 
 pub use book::{Book, MAX_STORAGES};
-pub use loading::{Found, FoundAt};
+pub use loading::{Answer, Found, FoundAt};
 pub use open_plan::RebuildFault;
 pub use refusals::{
     FlushRefusal, LeaseRefusal, LoadRefusal, NotLeased, NotPinned, RaiseRefusal, RootRefusal,
-    Rooted, ShrinkDone, ShrinkRefusal, SnapRefusal, StoreRefusal,
+    Rooted, ShrinkDone, ShrinkRefusal, SnapRefusal, StoreRefusal, ViewTooOld,
 };
 pub use snapping::SnapJob;

@@ -3,7 +3,7 @@ ghost use Rattle.slot_list.specs.Latest.{sees, IsLatest};
 ghost use Rattle.accounts_index.specs.Index.{kept};
 
 use accounts_index::{AccountsIndex, Steps};
-use adb_model::{Account, Key, Slot, View};
+use adb_model::{Account, Head, Key, Slot, View};
 use slot_list::Version;
 use std::marker::Brand;
 use std::sync::Arc;
@@ -30,6 +30,16 @@ pub enum FoundAt {
         sealed: Arc<Sealed>,
         offset: usize,
     },
+}
+
+/// An account that a view sees, read where it stands.
+#[derive(Clone, Copy, Debug)]
+pub struct Answer<'a> {
+    /// The slot in which it was stored.
+    pub slot: Slot,
+    /// Its fields but for its data.
+    pub head: Head,
+    pub data: &'a [u8],
 }
 
 fn latest_by<L: Ledger>(

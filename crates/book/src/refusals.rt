@@ -41,6 +41,13 @@ pub enum LoadRefusal {
     NoMemory,
 }
 
+/// The view's roots end below the slot up to which was cleaned.
+#[derive(Clone, Copy, Debug, PartialEq, Eq)]
+pub struct ViewTooOld {
+    pub max_root: u64,
+    pub cleaned: Slot,
+}
+
 /// The pass has no pin of the storage with this id.
 #[derive(Clone, Copy, Debug, PartialEq, Eq)]
 pub struct NotPinned {

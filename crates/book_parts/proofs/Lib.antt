@@ -3,6 +3,7 @@ mod CellSums
 mod Counts
 mod FlushSteps
 mod HeldPins
+mod LastStores
 mod Loads
 mod Lookups
 mod Marks

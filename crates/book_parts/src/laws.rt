@@ -1,4 +1,4 @@
-ghost use Rattle.std.specs.Prelude.{count_by, ◌==◌, ◌≡◌, ◌≢◌, ◌<◌, ◌≤◌, ◌^◌, ◌∷◌, ◌++◌, ℕ, List, [], Bool, true, false, length, All, AllPairs, Option, Some, None, IsSome, IsTrue, IsFalse};
+ghost use Rattle.std.specs.Prelude.{count_by, ◌==◌, ◌≡◌, ◌≢◌, ◌<◌, ◌≤◌, ◌^◌, ◌∷◌, ◌++◌, ℕ, List, [], true, false, length, All, AllPairs, Option, Some, None, IsSome};
 ghost use Rattle.slot_list.specs.declared.Version as version;
 ghost use Rattle.slot_list.specs.declared.Place.TheVariants as places;
 ghost use Rattle.slot_list.specs.Versions.{at};
@@ -26,11 +26,11 @@ ghost use Rattle.book_parts.specs.Stands.{Stands, After, AfterWithPins};
 ghost use Rattle.book_parts.specs.Changes.{rooted_by, AgreeIn, CachedIn, SameIndex, SameCache, Enters, Leaves};
 ghost use Rattle.book_parts.specs.Keys.{IsNextKey};
 
+use crate::answering::latest_versions_answer;
 use adb_model::{
     cached_pairs_are_counted, counts_are_bounded, histories_go_on, last_stores_follow,
     named_pairs_stand_once, only_roots_are_flushed, pairs_follow_purges, pairs_follow_stores,
-    present_pairs_answer, rows_are_last_stores, rows_follow_stores, rows_have_bytes,
-    states_are_sound,
+    rows_are_last_stores, rows_follow_stores, rows_have_bytes, states_are_sound,
 };
 
 /// A law: parts that stand for a history and then reflect what a call's step makes of its state, stand for
@@ -155,7 +155,7 @@ pub fn load_stands()
     last_stores_follow();
     only_roots_are_flushed();
     rows_are_last_stores();
-    present_pairs_answer();
+    latest_versions_answer();
 }
 
 /// A law: the counts that the parts keep are those of the state.

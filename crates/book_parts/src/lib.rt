@@ -5,6 +5,7 @@
 //! law takes one call of a book: from what the call did to the parts it tells for which history they stand then.
 #![tactic(auto)]
 
+mod answering;
 mod cleaning;
 mod flush_events;
 mod flushing;
@@ -17,6 +18,7 @@ mod shrinking;
 mod snap_events;
 mod snapping;
 
+pub use answering::latest_versions_answer;
 pub use cleaning::{
     crowded_keys_reflect, dropped_version_reflects, reclaim_stands, retired_storage_reflects,
     stored_versions_stand,

@@ -1,4 +1,4 @@
-ghost use Rattle.std.specs.Prelude.{◌≡◌, ◌+◌, ◌-◌, ◌<◌, ◌≤◌, ◌^◌, ◌==◌, ◌∷◌, ◌++◌, ℕ, List, [], true, false, if◌then◌else◌, length, slice_set, Option, Some};
+ghost use Rattle.std.specs.Prelude.{◌≡◌, ◌+◌, ◌-◌, ◌<◌, ◌≤◌, ◌^◌, ◌==◌, ◌∷◌, ◌++◌, ℕ, List, [], true, false, if◌then◌else◌, length, Option, Some};
 ghost use Rattle.std.specs.List.{list_any};
 ghost use Rattle.slot_list.specs.declared.Version as version;
 ghost use Rattle.slot_list.specs.declared.Place.TheVariants as places;
@@ -7,7 +7,6 @@ ghost use Rattle.slot_list.specs.Latest as slots;
 ghost use Rattle.slot_list.specs.Latest.{IsLatest};
 ghost use Rattle.accounts_index.specs.Index.{kept};
 ghost use Rattle.pass_pins.specs.Pins.{Pins, has_id, count_of};
-ghost use Rattle.cell_table.specs.declared.phase.Phase.{Phase};
 ghost use Rattle.cell_table.specs.Phases as cells;
 ghost use Rattle.cell_table.specs.Phases.{is_live, pins_of, pinned, unpinned};
 ghost use Rattle.cell_table.specs.Cells.{cell_at, pins};
@@ -17,16 +16,15 @@ ghost use Rattle.adb_model.specs.Call as machine;
 ghost use Rattle.adb_model.specs.Call.{Refused};
 ghost use Rattle.adb_model.specs.History.{state_after};
 ghost use Rattle.adb_model.specs.Passing.{pins_stay as leaves_pins};
-ghost use Rattle.book_parts.specs.Parts.{Parts, Shared};
+ghost use Rattle.book_parts.specs.Parts.{Parts};
 ghost use Rattle.book_parts.specs.Cells.{row_in};
 ghost use Rattle.book_parts.specs.Pins.{HoldsPins};
 ghost use Rattle.book_parts.specs.Changes.{with_cell};
 ghost use Rattle.book_parts.specs.Stands.{Stands, After, AfterWithPins, HasHistoryWithPins, with_event};
 
+use crate::answering::latest_versions_answer;
 use crate::laws::step_stands;
-use adb_model::{
-    histories_go_on, pinned_storages_stand, pins_are_own, pins_follow, present_pairs_answer,
-};
+use adb_model::{histories_go_on, pinned_storages_stand, pins_are_own, pins_follow};
 
 /// A law: a version that isn't in the cache is the row at its place in a live cell; where it is the latest that
 /// a view sees, that row answers the load, which pins the cell.
@@ -48,7 +46,7 @@ pub fn stored_load_stands()
 {
     step_stands();
     histories_go_on();
-    present_pairs_answer();
+    latest_versions_answer();
     pins_follow();
     pinned_storages_stand();
 }

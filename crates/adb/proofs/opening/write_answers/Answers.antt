@@ -1,4 +1,4 @@
-use Rattle.std.proofs.Common.{◌<◌, Option, [], refl, sym, subst, ◌∙◌}
+use Rattle.std.proofs.Common.{◌<◌, ◌≤◌, ℕ, Option, [], refl, sym, subst, ◌∙◌}
 use Rattle.std.specs.Option.{option_map}
 use Rattle.std.specs.Io.KnownBytes.{Appends}
 use Rattle.std.proofs.KnownBytes.{Appends-nil}
@@ -15,32 +15,31 @@ use Rattle.adb.proofs.opening.write_answers.Goals as goal
 
 pub loop-next-init : goal.loop-next-init
 loop-next-init g c = record {
-  readable = λ start h r. r;
-  written = λ start h r. (
-    [],
-    before_first c.present_pairs_answer.ensures.none (state_after start h) r.stands.sound c.args.view.now.max_root r.upto (option_map (λ (k : Key). k.0) c.key_after-next.result) (c.key_after-next.ensures start h r.stands),
-    Appends-nil (g.K.Sink.taken c.args.sink.now),
-  );
+  written = λ start h st.
+      let slot = c.args.view.now.max_root in
+      let upto = subst (λ (n : ℕ). n ≤ slot) st.parts.cleaned c.requires.cleaned in (
+        [],
+        before_first c.present_pairs_answer.ensures.none (state_after start h) st.sound slot upto (option_map (λ (k : Key). k.0) c.key_after-next.result) (c.key_after-next.ensures start h st),
+        Appends-nil (g.K.Sink.taken c.args.sink.now),
+      );
   kept = refl;
 }
 
 pub loop-next-smaller : goal.loop-next-smaller
 loop-next-smaller g c =
-    let some = c.requires.readable in
-    let at = c.loop-next.invariant.readable some.0 some.1 some.2 in
+    let some = c.has_history.ensures in
     let next = option_map (λ (k : Key). k.0) c.key_after-next-in-Some.result in
     subst (λ (o : Option Key). keys_left c.args.book.now.index next < keys_left c.args.book.now.index (option_map (λ k. k.0) o)) (sym c.in-Some.is)
-    (fewer_left c.args.book.now (state_after some.0 some.1) some.2.stands.parts c.in-Some.key.0 next (c.key_after-next-in-Some.ensures some.0 some.1 at.stands))
+    (fewer_left c.args.book.now (state_after some.start some.history) some.stands.parts c.in-Some.key.0 next (c.key_after-next-in-Some.ensures some.start some.history some.stands))
 
 pub loop-next-preserved : goal.loop-next-preserved
 loop-next-preserved g c = record {
-  readable = λ start h r. c.in_ok-write_answer.ensures.readable start h (c.loop-next.invariant.readable start h r);
-  written = λ start h r.
+  written = λ start h st.
       let m = state_after start h in
       let slot = c.args.view.now.max_root in
+      let upto = subst (λ (n : ℕ). n ≤ slot) st.parts.cleaned c.requires.cleaned in
       let key = c.in-Some.key.0 in
-      let at = c.loop-next.invariant.readable start h r in
-      let w = c.loop-next.invariant.written start h r in
+      let w = c.loop-next.invariant.written start h st in
       let below = subst (λ (o : Option Key). AreAnswersBelow (option_map (λ k. k.0) o) m slot w.0) c.in-Some.is w.1 in
       let o = answer m (at_root slot) key in
       let next = option_map (λ (k : Key). k.0) c.key_after-next-in-Some.result in
@@ -48,19 +47,19 @@ loop-next-preserved g c = record {
       let b = g.K.Sink.taken c.loop-next.sink in
       let d = g.K.Sink.taken c.write_answer.new.sink in (
         with_answer w.0 o,
-        one_more c.present_pairs_answer.ensures.none m at.stands.sound slot at.upto key next (c.key_after-next-in-Some.ensures start h at.stands) w.0 below o refl,
-        lines_appended a b d w.0 o w.2 (subst (λ (v : View). Appends b d (answer_line (answer m v key))) c.requires.view (c.in_ok-write_answer.ensures.ok start h at)),
+        one_more c.present_pairs_answer.ensures.none m st.sound slot upto key next (c.key_after-next-in-Some.ensures start h st) w.0 below o refl,
+        lines_appended a b d w.0 o w.2 (subst (λ (v : View). Appends b d (answer_line (answer m v key))) c.requires.view (c.in_ok-write_answer.ensures.ok start h st)),
       );
   kept = c.in_ok-write_answer.ensures.counts.kept ∙ c.loop-next.invariant.kept;
 }
 
 pub returns-in_err-write_answer-clause-err : goal.returns-in_err-write_answer-clause-err
-returns-in_err-write_answer-clause-err g c start h r =
+returns-in_err-write_answer-clause-err g c start h st =
     let m = state_after start h in
     let slot = c.args.view.now.max_root in
+    let upto = subst (λ (n : ℕ). n ≤ slot) st.parts.cleaned c.requires.cleaned in
     let key = c.in-Some.key.0 in
-    let at = c.loop-next.invariant.readable start h r in
-    let w = c.loop-next.invariant.written start h r in
+    let w = c.loop-next.invariant.written start h st in
     let below = subst (λ (o : Option Key). AreAnswersBelow (option_map (λ k. k.0) o) m slot w.0) c.in-Some.is w.1 in
     let o = answer m (at_root slot) key in
     let next = option_map (λ (k : Key). k.0) c.key_after-next-in-Some.result in
@@ -70,13 +69,13 @@ returns-in_err-write_answer-clause-err g c start h r =
     on_err c.from_residual.result (
       next,
       with_answer w.0 o,
-      one_more c.present_pairs_answer.ensures.none m at.stands.sound slot at.upto key next (c.key_after-next-in-Some.ensures start h at.stands) w.0 below o refl,
-      lines_cut a b d w.0 o w.2 (subst (λ (v : View). AppendsFront b d (answer_line (answer m v key))) c.requires.view (c.in_err-write_answer.ensures.err start h at)),
+      one_more c.present_pairs_answer.ensures.none m st.sound slot upto key next (c.key_after-next-in-Some.ensures start h st) w.0 below o refl,
+      lines_cut a b d w.0 o w.2 (subst (λ (v : View). AppendsFront b d (answer_line (answer m v key))) c.requires.view (c.in_err-write_answer.ensures.err start h st)),
     )
 
 pub returns-clause-ok : goal.returns-clause-ok
-returns-clause-ok g c start h r =
-    let w = c.loop-next.invariant.written start h r in (
+returns-clause-ok g c start h st =
+    let w = c.loop-next.invariant.written start h st in (
       w.0,
       subst (λ (o : Option Key). AreAnswersBelow (option_map (λ k. k.0) o) (state_after start h) c.args.view.now.max_root w.0) c.in_default.is w.1,
       w.2,

@@ -4,16 +4,16 @@ use Rattle.std.specs.Io.KnownBytes.{Appends}
 use Rattle.adb_model.specs.State.{Stored, State}
 use Rattle.adb_model.specs.Call.{Event}
 use Rattle.adb_model.specs.History.{state_after}
-use Rattle.adb.specs.Opening.{IsReadable, AreAnswersBelow, line_of}
+use Rattle.book_parts.specs.Stands.{Stands}
+use Rattle.adb.specs.Opening.{AreAnswersBelow, line_of}
 use Rattle.adb.proofs.KeysLeft.{keys_left}
 use Rattle.adb.proofs.opening.write_answers.Given as goal
 
 -- the accounts of the keys below the next one were written
 abbrev pub invariant-loop-next : goal.invariant-loop-next
 invariant-loop-next g l = record {
-  readable : (start : State) (history : List Event) → IsReadable l.fn.book l.fn.pins l.view.max_root start history → IsReadable l.book l.pins l.view.max_root start history;
-  written : (start : State) (history : List Event) → IsReadable l.fn.book l.fn.pins l.view.max_root start history
-      → (found : List Stored) × AreAnswersBelow (option_map (λ k. k.0) l.next) (state_after start history) l.view.max_root found
+  written : (start : State) (history : List Event) → Stands l.fn.book start history
+      → (found : List Stored) × AreAnswersBelow (option_map (λ k. k.0) l.next) (state_after start history) l.fn.view.max_root found
       × Appends (g.K.Sink.taken l.fn.sink) (g.K.Sink.taken l.sink) (flat_map line_of found);
   kept : g.K.Sink.faults l.sink ≡ g.K.Sink.faults l.fn.sink;
 }

@@ -2,7 +2,7 @@ use Rattle.std.proofs.Common.{[], ap, refl}
 use Rattle.adb_model.specs.View.{View}
 use Rattle.adb_model.specs.Opened.{opened}
 use Rattle.script.specs.Said.{default_budget}
-use Rattle.adb.proofs.Listings.{readable_opened, line_taken, all_taken, front_taken}
+use Rattle.adb.proofs.Listings.{line_taken, all_taken, front_taken}
 use Rattle.adb.proofs.opening.write_listing.Goals as goal
 
 pub returns-in_default-clause-err : goal.returns-in_default-clause-err
@@ -18,7 +18,7 @@ returns-clause-ok g c images more st =
     let slot = c.in-Ok.view.max_root in
     all_taken m c.args.name.now c.args.slot slot at (g.K.Sink.taken c.args.sink.now) (g.K.Sink.taken c.write_whole.new.sink) (g.K.Sink.taken c.write_answers.new.sink)
     c.in_ok-line.line.now c.in_ok-line.ensures c.in_ok-write_whole.ensures.ok c.write_answers.result
-    (c.write_answers.ensures.ok m [] (readable_opened c.args.book.now c.new-pins.result default_budget c.args.slot slot images more c.new-pins.ensures at st))
+    (c.write_answers.ensures.ok m [] st)
 
 pub returns-clause-err : goal.returns-clause-err
 returns-clause-err g c images more st =
@@ -27,4 +27,4 @@ returns-clause-err g c images more st =
     let slot = c.in-Ok.view.max_root in
     front_taken m c.args.name.now c.args.slot slot at (g.K.Sink.taken c.args.sink.now) (g.K.Sink.taken c.write_whole.new.sink) (g.K.Sink.taken c.write_answers.new.sink)
     c.in_ok-line.line.now c.in_ok-line.ensures c.in_ok-write_whole.ensures.ok c.write_answers.result
-    (c.write_answers.ensures.err m [] (readable_opened c.args.book.now c.new-pins.result default_budget c.args.slot slot images more c.new-pins.ensures at st))
+    (c.write_answers.ensures.err m [] st)

@@ -1,22 +1,23 @@
-use Rattle.std.proofs.Common.{◌≡◌, ℕ, ◌<◌, ◌≤◌, length, true, false, Some, sym, ap, ◌∙◌, subst, length-append, [], ◌∷◌, arith}
-use Rattle.std.proofs.lemmas.Option.{same_Some}
+use Rattle.std.proofs.Common.{◌≡◌, ℕ, ◌<◌, ◌≤◌, length, true, false, not, sym, ap, ◌∙◌, subst, length-append, [], ◌∷◌, arith}
+use Rattle.slot_list.specs.declared.Place.{Place}
 use Rattle.pass_pins.specs.Pins.{Pins}
+use Rattle.accounts_index.specs.Index.{is_stored}
 use Rattle.cell_table.specs.Phases.{is_live, pinned}
 use Rattle.cell_table.specs.Cells.{cell_at}
-use Rattle.adb_model.specs.State.{Row, State}
+use Rattle.adb_model.specs.State.{State}
 use Rattle.adb_model.specs.Call as machine
 use Rattle.adb_model.specs.Call.{Load, Found, Reply, Event}
 use Rattle.adb_model.specs.Callers as callers
 use Rattle.adb_model.specs.Callers.{found, place_of}
 use Rattle.adb_model.specs.History.{state_after, IsPass}
-use Rattle.adb_model.specs.Sound.{last_account}
 use Rattle.book_parts.specs.Reflects.{Reflects}
 use Rattle.book_parts.specs.Pins.{HoldsPins}
 use Rattle.book_parts.specs.Changes.{with_cell}
 use Rattle.book_parts.proofs.CellOfStorage.{one_id}
 use Rattle.book_parts.proofs.Repinned.{reflects_repinned, repinned_more}
 use Rattle.book_parts.proofs.PinsInHand.{held_more}
-use Rattle.book_parts.proofs.StoredLoads.{pins_held, load_answered, placed_there, live_there, stored_top, named_place, stored_found}
+use Rattle.book_parts.proofs.Loads.{pins_of, load_taken, top}
+use Rattle.book_parts.proofs.StoredLoads.{placed_there, live_there, present_named, named_place}
 use Rattle.book_parts.proofs.pinning.stored_load_stands.Goals as goal
 
 pub returns-clause-live : goal.returns-clause-live
@@ -30,16 +31,15 @@ returns-clause-done c = λ p in_hand after m0 h view key v cell offset id row st
     let pass = after.pass in
     let same : after.pass ≡ in_hand.pass = ap (λ (a : Pins). a.pass) e in
     let new_view : m.cleaned ≤ view.max_root = subst (λ (n : ℕ). n ≤ view.max_root) st.parts.cleaned new in
-    let few_held : pins_held m pass < 64 = subst (λ (n : ℕ). pins_held m n < 64) (sym same) (subst (λ (n : ℕ). n < 64) held.count few) in
-    let is_top = stored_top p m key v cell offset view st.parts l place in
+    let few_held : pins_of m pass < 64 = subst (λ (n : ℕ). pins_of m n < 64) (sym same) (subst (λ (n : ℕ). n < 64) held.count few) in
+    let is_top = top p m view key v st.parts l in
     let stands = placed_there p m key v cell offset st.parts l.0 place in
     let same_id : stands.storage.id ≡ id = one_id stands.storage.id id (cell_at p.cells.cells cell) stands.there has in
-    let same_row = same_Some (record { key = key; account = stands.account }) row (sym stands.row ∙ row_there) in
-    let is_account : last_account m v.slot key ≡ Some row.account = stands.last ∙ ap (λ (r : Row). Some r.account) same_row in
-    let is_placed : place_of m v.slot key ≡ machine.InStorage id = named_place m v.slot key stands.storage is_top.named stands.live ∙ ap machine.InStorage same_id in
-    let answered = c.present_pairs_answer.ensures.some m st.sound view key new_view v.slot is_top.seen is_top.present is_top.above in
-    let is = load_answered m pass view key new_view few_held ∙ ap (found m pass) answered
-    ∙ stored_found m pass v.slot key id row.account is_placed (is_top.tomb ∙ whole) is_account in
+    let named = present_named m v.slot key (is_top.cached ∙ ap (λ (at : Place). not (is_stored at)) place) is_top.present in
+    let is_placed : place_of m v.slot key ≡ machine.InStorage id = named_place m v.slot key stands.storage named stands.live ∙ ap machine.InStorage same_id in
+    let answered = c.latest_versions_answer.ensures.stored p m0 h view key v cell offset row st new l whole place row_there in
+    let is = load_taken m pass view key new_view few_held ∙ ap (found m pass) answered
+    ∙ ap (λ place. let done : State × Reply = (callers.pinned m pass place, Found v.slot place row.account) in done) is_placed in
     let reply : Reply = Found v.slot (machine.InStorage id) row.account in
     let event : Event = record { pass = pass; call = Load view key; reply = reply } in
     let next : State = callers.pinned m pass (machine.InStorage id) in
