@@ -1,3 +1,4 @@
 mod Begun
 mod Kept
 mod Listed
+mod Noted

@@ -1,5 +1,6 @@
 // Files below a folder of the system.
-ghost use Rattle.std.specs.Prelude.{◌≢◌, ◌<◌, ◌≤◌, length, IfOk, IfErr, OnOk};
+ghost use Rattle.std.specs.Prelude.{◌≡◌, ◌≢◌, ◌<◌, ◌≤◌, length, not, IfOk, IfErr, OnOk, OnErr, IsTrue, true, string_cmp};
+ghost use Rattle.std.specs.BTreeSet.{contains, Updates, IsUnchanged, IsSameSet, IsSubset};
 ghost use Rattle.dir_io.specs.declared.fault.DirError.TheVariants.{Missing};
 
 use crate::DirError;
@@ -140,7 +141,7 @@ pub(crate) fn write<R: Files + AllocGlobal>(
     written: &mut BTreeSet<String>,
 ) -> Result<(), DirError>
     ensures never_missing { IfErr result (λ error. error ≢ Missing) }
-    ensures more { length written.old.keys ≤ length written.new.keys }
+    ensures kept { IsSubset string_cmp written.old written.new }
     ensures noted { OnOk result (0 < length written.new.keys) }
 {
     if !is_proper(name) {
@@ -148,7 +149,7 @@ pub(crate) fn write<R: Files + AllocGlobal>(
     }
     let path = make_way(rt, base, name, written)?;
     match kind_at(rt, &path)? {
-        Kind::Nothing | Kind::File => write_file(rt, path, bytes, written),
+        Kind::Nothing | Kind::File => write_file(rt, &path, bytes, written),
         _ => Err(DirError::Failed),
     }
 }
@@ -161,7 +162,7 @@ fn make_way<R: Files + AllocGlobal>(
     written: &mut BTreeSet<String>,
 ) -> Result<String, DirError>
     ensures never_missing { IfErr result (λ error. error ≢ Missing) }
-    ensures more { length written.old.keys ≤ length written.new.keys }
+    ensures kept { IsSubset string_cmp written.old written.new }
 {
     let mut path = String::from_str(rt.alloc(), base)?;
     let mut is_first = true;
@@ -192,32 +193,54 @@ fn make_folder(rt: &impl Files, path: &str) -> Result<(), DirError>
 
 fn write_file(
     rt: &impl Files,
-    path: String,
+    path: &String,
     bytes: &[u8],
     written: &mut BTreeSet<String>,
 ) -> Result<(), DirError>
     ensures never_missing { IfErr result (λ error. error ≢ Missing) }
-    ensures more { length written.old.keys ≤ length written.new.keys }
-    ensures noted { OnOk result (0 < length written.new.keys) }
+    ensures kept { IsSubset string_cmp written.old written.new }
+    ensures noted { OnOk result (IsTrue (contains string_cmp written.new path.now)) }
 {
-    let mut file = match fs::create(rt, &path) {
-        Ok(file) => file,
-        Err(error) => return Err(fault_of(&error)),
-    };
-    written.insert(path)?;
+    let mut file = create(rt, path, written)?;
     match file.write_all(bytes) {
         Ok(()) => Ok(()),
         Err(error) => Err(fault_of(&error)),
     }
 }
 
-fn note(path: &String, written: &mut BTreeSet<String>) -> Result<(), AllocError>
-    ensures { length written.old.keys ≤ length written.new.keys }
+// Makes a file, or empties the one that is there, and notes its path. It's noted first: else want of memory would leave a file
+// that no sync looks at. Where no file is made a path that was new is taken out again, since a sync would fail at it.
+fn create<R: Files>(
+    rt: &R,
+    path: &String,
+    written: &mut BTreeSet<String>,
+) -> Result<R::File, DirError>
+    ensures never_missing { IfErr result (λ error. error ≢ Missing) }
+    ensures noted { OnOk result (Updates string_cmp written.old written.new path.now true) }
+    ensures err { OnErr result (IsSameSet string_cmp written.old written.new) }
 {
-    if !written.contains(path) {
-        written.insert(path.clone()?)?;
+    let is_new = note(path, written)?;
+    match fs::create(rt, path) {
+        Ok(file) => Ok(file),
+        Err(error) => {
+            if is_new {
+                written.remove(path);
+            }
+            Err(fault_of(&error))
+        }
     }
-    Ok(())
+}
+
+// Notes a path, and answers whether it is new.
+fn note(path: &String, written: &mut BTreeSet<String>) -> Result<bool, AllocError>
+    ensures new { IfOk result (λ is_new. is_new ≡ not (contains string_cmp written.old path.now)) }
+    ensures noted { OnOk result (Updates string_cmp written.old written.new path.now true) }
+    ensures err { OnErr result (IsUnchanged written.old written.new) }
+{
+    if written.contains(path) {
+        return Ok(false);
+    }
+    Ok(written.insert(path.clone()?)?)
 }
 
 // Syncs a file or a folder.
