@@ -8,5 +8,6 @@ pub mod Lists
 pub mod Ordered
 pub mod Changes
 pub mod Walks
+pub mod Iterated
 pub mod Onward
 pub mod Edited

@@ -10,7 +10,9 @@ use Rattle.std.specs.declared.cmp.Ordering.TheVariants.{Less}
 use Rattle.slot_list.specs.declared.Place.{Place}
 use Rattle.slot_list.specs.declared.Place.TheVariants.{Cached, Stored}
 use Rattle.slot_list.specs.declared.Version.{Version}
-use Rattle.slot_list.specs.Versions.{VersionsRise}
+use Rattle.slot_list.specs.Versions.{KeySlots, VersionsRise}
+use Rattle.adb_model.specs.declared.key.Key.{Key}
+use denote.Ref.{Bor}
 
 -- what is kept of a key: its versions by rising slot, the slots in which it is held, and those in which it is expected to be
 pub record Kept : Type 0 where
@@ -31,6 +33,14 @@ kept index key = unwrap_or (lookup (λ k. bytes_eq k key) index) nothing
 -- new keeps this of the key, and of every other key what old keeps
 abbrev pub IsWith : Index → Index → List ℕ → Kept → Type 0
 IsWith old new key of_key = (q : List ℕ) → kept new q ≡ (if bytes_eq key q then of_key else kept old q)
+
+-- the keys with the versions of each
+abbrev pub versions_of : Index → List (List ℕ × List Version)
+versions_of index = map (λ e. (e.0, e.1.versions)) index
+
+-- a key that is lent with its list, and the versions of this
+abbrev pub shown : Bor Key × Bor KeySlots → List ℕ × List Version
+shown lent = (lent.0.now.0, lent.1.now.versions)
 
 -- the order of keys, byte by byte
 abbrev pub key_cmp : List ℕ → List ℕ → Ordering

@@ -1,7 +1,8 @@
 -- What the entries of an index stand for, and what holds of them.
-use Rattle.std.specs.Prelude.{◌≡◌, ◌≢◌, ℕ, ◌≤◌, ◌<◌, ◌+◌, List, length, map, All, AllPairs, slice_index_or}
+use Rattle.std.specs.Prelude.{◌≡◌, ◌≢◌, ℕ, ◌≤◌, ◌<◌, ◌+◌, List, ◌++◌, length, map, flat_map, All, AllPairs, slice_index_or}
 use Rattle.accounts_index.specs.declared.entry.Entry.{Entry}
 use Rattle.accounts_index.specs.declared.entry.Lists.{Lists}
+use Rattle.std.specs.declared.vec.Vec.{Vec}
 use Rattle.std.specs.declared.cmp.Ordering.TheVariants.{Less}
 use Rattle.accounts_index.specs.Index.{Kept, Index, key_cmp}
 
@@ -36,3 +37,7 @@ pub record AreEntriesBut (entries : List Entry) (place : ℕ) : Type 0 where
   pub rise : KeysRise entries
   pub room : All (λ e. HasRoom e.lists.value) entries
   pub used : (k : ℕ) (d : Entry) → k ≢ place → k < length entries → IsUsed (slice_index_or entries k d).lists.value
+
+-- the bins that are left of a group, and those of the groups after it
+abbrev pub bins_left : {B : Type 0} → List Index → List (Vec Index B) → List Index
+bins_left bins groups = bins ++ flat_map (λ group. group.items) groups

@@ -1,8 +1,10 @@
 ghost use Rattle.std.specs.Prelude.{◌≡◌, ◌+◌, ◌-◌, ◌*◌, ◌^◌, ◌≤◌, ◌++◌, ◌∷◌, [], true, false, length, take, map, option_map, option_copied, MatchOption, IfOk, OnOk, OnErr, IsOk, IsSome};
+ghost use Rattle.std.specs.Slice.Iter.{iter_rest};
 ghost use Rattle.view_sets.specs.Slots.{among};
 ghost use Rattle.slot_list.specs.Versions.{at, put, without, rehomed, with_slot, without_slot};
 ghost use Rattle.accounts_index.specs.Bins.{AreUsed};
 ghost use Rattle.accounts_index.specs.Index.{kept, nothing, IsWith, IsOrdered, key_after, crowded_after};
+ghost use Rattle.accounts_index.specs.Inside.{seen};
 
 use crate::entry::Entry;
 use crate::search::{find_place, place_of};
@@ -13,6 +15,7 @@ use arrayvec::ArrayVec;
 use slot_list::{Place, SlotList, Version};
 use std::alloc::{AllocError, Global};
 use std::marker::Model;
+use std::slice;
 use std::sync::ledger::Ledger;
 
 /// Some keys with what is kept of them, in a vector sorted by key.
@@ -42,6 +45,13 @@ impl Bin {
             entries: Vec::new(alloc),
             alloc,
         }
+    }
+
+    /// The keys by rising key, each with what is kept of it.
+    pub fn entries(&self) -> slice::Iter<'_, Entry>
+        ensures { seen (iter_rest result) ≡ self.now }
+    {
+        self.entries.iter()
     }
 
     pub fn find<L: Ledger>(&self, key: &Key, steps: &mut Steps<L>) -> Option<&SlotList>

@@ -1,12 +1,14 @@
-ghost use Rattle.std.specs.Prelude.{◌≡◌, ◌+◌, ◌-◌, ◌*◌, ◌^◌, ◌≤◌, ◌++◌, ◌∷◌, [], true, false, length, take, map, option_map, option_copied, MatchOption, IfOk, OnOk, OnErr, IsOk, IsSome};
+ghost use Rattle.std.specs.Prelude.{◌≡◌, ◌≢◌, ℕ, ◌+◌, ◌-◌, ◌*◌, ◌^◌, ◌≤◌, ◌++◌, ◌∷◌, [], true, false, List, length, take, map, option_map, option_copied, MatchOption, IfOk, OnOk, OnErr, IsOk, IsSome, All, AllPairs, Contains};
+ghost use Rattle.std.specs.declared.cmp.Ordering.TheVariants.{Less};
 ghost use Rattle.view_sets.specs.Slots.{among};
 ghost use Rattle.slot_list.specs.Versions.{at, put, without, rehomed, with_slot, without_slot};
 ghost use Rattle.accounts_index.specs.Bins.{AreUsed};
-ghost use Rattle.accounts_index.specs.Index.{kept, nothing, IsWith, IsOrdered, ListsRise, key_after, crowded_after};
+ghost use Rattle.accounts_index.specs.Index.{kept, nothing, versions_of, IsWith, key_cmp, IsOrdered, ListsRise, key_after, crowded_after};
 
 use crate::bin::Bin;
 use crate::bins::{GROUP, bin_of};
 use crate::groups::{self, empty_groups, grow};
+use crate::iter::Iter;
 use crate::steps::Steps;
 use adb_model::{Key, Slot};
 use arrayvec::ArrayVec;
@@ -218,6 +220,16 @@ impl AccountsIndex {
         ensures lists { ListsRise self.now }
     {
         let _groups = &self.groups;
+    }
+
+    /// All keys by rising key, each with its list.
+    pub fn iter(&self) -> Iter<'_>
+        ensures all { result ≡ versions_of self.now }
+        ensures rise { AllPairs (λ a b. key_cmp a.0 b.0 ≡ Less) result }
+        ensures each { All (λ e. (kept self.now e.0).versions ≡ e.1) result }
+        ensures every { (k : List ℕ) → (kept self.now k).versions ≢ [] → Contains result (k, (kept self.now k).versions) }
+    {
+        Iter::new(&self.groups)
     }
 
     /// The least key above another, or of all keys, that has a version.

@@ -7,6 +7,7 @@ mod edits;
 mod entry;
 mod groups;
 mod index;
+mod iter;
 mod search;
 mod steps;
 #[cfg(test)]
@@ -14,4 +15,5 @@ mod tests;
 mod walk;
 
 pub use index::AccountsIndex;
+pub use iter::Iter;
 pub use steps::Steps;

@@ -187,3 +187,19 @@ fn walks_pass_over_groups(rt: HostRuntime) -> Result<(), Fail> {
     }
     Ok(())
 }
+
+#[test]
+fn iter_gives_each_key_once(rt: HostRuntime) -> Result<(), Fail> {
+    let mut index = AccountsIndex::new(rt.alloc())?;
+    for (first, slot) in [(255, 5), (9, 8), (0, 5), (9, 5), (1, 5)] {
+        index.upsert(&key(first), version(slot, STORED, false))?;
+    }
+    index.expect(&key(77), 5)?;
+    let expected = [(0, 1), (1, 1), (9, 2), (77, 0), (255, 1)];
+    let mut found = Vec::new(rt.alloc());
+    for (key, list) in index.iter() {
+        found.push((key.0[0], list.versions().len()))?;
+    }
+    assert_eq!(rt; found.as_slice(), expected.as_slice());
+    Ok(())
+}
