@@ -72,7 +72,7 @@ module _ (a b c : Option (List ℕ)) (k k1 k2 : ℕ) (keep : Keeps b c) (later :
   listing_kept files name x = record {
     opened = x.opened;
     from = x.from;
-    is = elim x.is [ inl y ↦ inl (front_kept _ y) | inr y ↦ inr (y.0, y.1, y.2, front_kept _ y.3) ];
+    is = elim x.is [ inl y ↦ inl (front_kept _ y) | inr y ↦ inr (y.0, y.1, front_kept _ y.2) ];
   }
 
   -- a listing that was taken whole was taken in part
@@ -82,7 +82,7 @@ module _ (a b c : Option (List ℕ)) (k k1 k2 : ℕ) (keep : Keeps b c) (later :
       record {
         opened = x.opened;
         from = x.from;
-        is = inr (None, x.is.0, x.is.1, (length text, subst (λ (l : List ℕ). Appends a c l) (sym (take-length text)) (Appends-kept a b c text x.is.2 keep)));
+        is = inr (x.is.0, x.is.1, (length text, subst (λ (l : List ℕ). Appends a c l) (sym (take-length text)) (Appends-kept a b c text x.is.2 keep)));
       }
 
   module _ (left left' : Option (List ℕ)) (f h : Option Files) where

@@ -10,7 +10,7 @@ use Rattle.dir_io.specs.Files.{Files}
 use Rattle.book_parts.specs.Parts.{Parts}
 use Rattle.snap_open.specs.Opening.{OpenedFrom}
 use Rattle.script.specs.Said.{default_budget, open_line}
-use Rattle.adb.specs.Opening.{AreAnswers, AreAnswersBelow, line_of, ListedAll, ListedFront, ListsAll, ListsFront}
+use Rattle.adb.specs.Opening.{AreAnswers, line_of, ListedAll, ListedFront, ListsAll, ListsFront}
 use Rattle.adb.proofs.Listed.{front_after}
 
 module _ (m : State) (name : List ℕ) (slot max_root : ℕ) (at : max_root ≡ slot) (a b c : Option (List ℕ)) (line : List ℕ) (is : line ≡ open_line name slot) (first : Appends a b line) where
@@ -25,10 +25,10 @@ module _ (m : State) (name : List ℕ) (slot max_root : ℕ) (at : max_root ≡ 
   all_taken (Ok x) w = (w.0, subst (λ (s : ℕ). AreAnswers m s w.0) at w.1, Appends-trans a b c _ _ opens w.2)
   all_taken (Err e) w = tt
 
-  pub front_taken : {X E : Type 0} (r : Result X E) → OnErr r ((next : Option (List ℕ)) × (found : List Stored) × AreAnswersBelow next m max_root found × AppendsFront b c (flat_map line_of found))
+  pub front_taken : {X E : Type 0} (r : Result X E) → OnErr r ((found : List Stored) × AreAnswers m max_root found × AppendsFront b c (flat_map line_of found))
       → OnErr r (ListedFront m name slot a c)
   front_taken (Ok x) w = tt
-  front_taken (Err e) w = inr (w.0, w.1, subst (λ (s : ℕ). AreAnswersBelow w.0 m s w.1) at w.2, front_after a b c _ _ opens w.3)
+  front_taken (Err e) w = inr (w.0, subst (λ (s : ℕ). AreAnswers m s w.0) at w.1, front_after a b c _ _ opens w.2)
 
 -- what holds where there is an error holds of this one
 pub of_err : {X E P : Type 0} (r : Result X E) (e : E) → r ≡ Err e → OnErr r P → P

@@ -1,14 +1,17 @@
 -- The accounts that a snapshot has.
-use Rattle.std.specs.Prelude.{◌≡◌, ◌≢◌, ◌⊎◌, ℕ, ◌≤◌, List, [], ◌++◌, Option, Some, None, IfSome, IfErr, OnOk, Result, All, AllPairs, Contains, ⊤, flat_map}
+use Rattle.std.specs.Prelude.{◌≡◌, ◌≢◌, ◌⊎◌, ℕ, ◌≤◌, List, [], ◌++◌, Option, Some, None, IfSome, IfErr, OnOk, Result, option_map, All, AllPairs, Contains, flat_map}
 use Rattle.std.specs.declared.cmp.Ordering.TheVariants.{Less}
 use Rattle.std.specs.Io.KnownBytes.{Appends, Keeps}
 use Rattle.stream_io.specs.Stream.{Rose, AppendsFront}
+use Rattle.adb_model.specs.declared.key.Key.{Key}
 use Rattle.adb_model.specs.State.{Stored, State}
 use Rattle.adb_model.specs.Opened as machine
 use Rattle.adb_model.specs.Laws.{at_root}
 use Rattle.adb_model.specs.Load.{answer}
 use Rattle.adb_model.specs.Reclaimable.{key_cmp}
 use Rattle.dir_io.specs.Files.{Files}
+use Rattle.book.specs.declared.loading.Answer.{Answer}
+use Rattle.book.specs.Answers.{told}
 use Rattle.script.specs.Text.{account_line}
 use Rattle.script.specs.Said.{default_budget, open_line}
 use Rattle.replay.specs.declared.stops.Stop.{Stop}
@@ -22,22 +25,11 @@ use Rattle.adb.specs.declared.ending.End.TheVariants as ends
 
 -- ---- which accounts a snapshot has
 
--- the key is below another one, if one is given
-abbrev pub IsBelow : List ℕ → Option (List ℕ) → Type 0
-IsBelow key None = ⊤
-IsBelow key (Some next) = key_cmp key next ≡ Less
-
--- the accounts that a state has at a slot under the keys below another one, if one is given: by rising key, each is the answer
--- of its key, and each such key that has an answer is there
-pub record AreAnswersBelow (next : Option (List ℕ)) (m : State) (slot : ℕ) (found : List Stored) : Type 0 where
+-- the accounts that a state has at a slot: by rising key, each is the answer of its key, and each key that has an answer is there
+pub record AreAnswers (m : State) (slot : ℕ) (found : List Stored) : Type 0 where
   pub rise : AllPairs (λ t u. key_cmp t.key u.key ≡ Less) found
-  pub below : All (λ t. IsBelow t.key next) found
   pub each : All (λ t. answer m (at_root slot) t.key ≡ Some t) found
-  pub all : (key : List ℕ) (t : Stored) → IsBelow key next → answer m (at_root slot) key ≡ Some t → Contains found t
-
--- those of all keys
-abbrev pub AreAnswers : State → ℕ → List Stored → Type 0
-AreAnswers m slot found = AreAnswersBelow None m slot found
+  pub all : (key : List ℕ) (t : Stored) → answer m (at_root slot) key ≡ Some t → Contains found t
 
 -- the line of an account
 abbrev pub line_of : Stored → List ℕ
@@ -51,11 +43,11 @@ listing name slot found = open_line name slot ++ flat_map line_of found
 abbrev pub ListedAll : State → List ℕ → ℕ → Option (List ℕ) → Option (List ℕ) → Type 0
 ListedAll m name slot taken taken' = (found : List Stored) × AreAnswers m slot found × Appends taken taken' (listing name slot found)
 
--- the sink took some of the front of the line of a snapshot, or of this and the lines of its first accounts
+-- the sink took some of the front of the line of a snapshot, or of this and the lines of its accounts
 abbrev pub ListedFront : State → List ℕ → ℕ → Option (List ℕ) → Option (List ℕ) → Type 0
 ListedFront m name slot taken taken' =
     AppendsFront taken taken' (open_line name slot)
-    ⊎ ((next : Option (List ℕ)) × (found : List Stored) × AreAnswersBelow next m slot found × AppendsFront taken taken' (listing name slot found))
+    ⊎ ((found : List Stored) × AreAnswers m slot found × AppendsFront taken taken' (listing name slot found))
 
 -- the files hold a snapshot of this name, and this is so of its slot and of the state that is opened from it
 pub record OpensTo (files : Option Files) (name : List ℕ) (Is : ℕ → State → Type 0) : Type 0 where
@@ -67,7 +59,7 @@ pub record OpensTo (files : Option Files) (name : List ℕ) (Is : ℕ → State 
 abbrev pub ListsAll : Option Files → Option (List ℕ) → Option (List ℕ) → List ℕ → Type 0
 ListsAll files taken taken' name = OpensTo files name (λ slot m. ListedAll m name slot taken taken')
 
--- the sink took some of the front of the line of the snapshot and of those of its first accounts
+-- the sink took some of the front of the line of the snapshot and of those of its accounts
 abbrev pub ListsFront : Option Files → Option (List ℕ) → Option (List ℕ) → List ℕ → Type 0
 ListsFront files taken taken' name = OpensTo files name (λ slot m. ListedFront m name slot taken taken')
 
@@ -82,6 +74,10 @@ pub record OpenRefused (files : Option Files) (taken taken' : Option (List ℕ))
 abbrev pub answer_line : Option Stored → List ℕ
 answer_line None = []
 answer_line (Some t) = line_of t
+
+-- the line of what was read of a key
+abbrev pub read_line : Key × Option Answer → List ℕ
+read_line read = answer_line (option_map (told read.0.0) read.1)
 
 -- ---- how the command ends
 

@@ -1,21 +1,20 @@
 // The accounts of a snapshot, by rising key.
-ghost use Rattle.std.specs.Prelude.{◌≡◌, ◌≤◌, ℕ, List, [], Option, Some, None, OnOk, OnErr, flat_map};
+ghost use Rattle.std.specs.Prelude.{◌≡◌, ◌≤◌, ℕ, List, [], OnOk, OnErr, flat_map};
 ghost use Rattle.stream_io.specs.Stream.{AppendsFront};
 ghost use Rattle.std.specs.Io.KnownBytes.{Appends};
 ghost use Rattle.adb_model.specs.State.{State, Stored};
 ghost use Rattle.adb_model.specs.Call as machine;
 ghost use Rattle.adb_model.specs.History.{state_after};
 ghost use Rattle.adb_model.specs.Laws.{at_root};
-ghost use Rattle.adb_model.specs.Load.{answer};
 ghost use Rattle.adb_model.specs.Opened.{Image, opened};
 ghost use Rattle.book_parts.specs.Stands.{Stands};
 ghost use Rattle.script.specs.Said.{default_budget};
-ghost use Rattle.adb.specs.Opening.{HasStopCause, AreAnswers, AreAnswersBelow, line_of, answer_line, ListedAll, ListedFront, OpenEnded, NotOpened};
+ghost use Rattle.adb.specs.Opening.{HasStopCause, AreAnswers, line_of, read_line, ListedAll, ListedFront, OpenEnded, NotOpened};
 ghost use Rattle.adb.specs.Run.{HasCauses};
 
 use crate::ending::End;
-use adb_model::{Key, Slot, View, present_pairs_answer};
-use book::{Book, ViewTooOld};
+use adb_model::{Key, Slot, View};
+use book::{Answer, Batch, Book};
 use dir_io::Dir;
 use replay::{Stop, end_with, not_opened_text};
 use script::{DEFAULT_BUDGET, JournalPrinter};
@@ -24,30 +23,38 @@ use std::alloc::{AllocError, Global};
 use std::mem::forget;
 use stream_io::{Sink, write_whole};
 
-// Hands the line of the account that a view sees under a key, if it sees one, to the sink.
+// Hands the line of what was read of a key, if it has one, to the sink.
 fn write_answer<K: Sink>(
-    book: &Book,
-    view: &View,
     key: &Key,
+    answer: &Option<Answer<'_>>,
     printer: &mut JournalPrinter,
     sink: &mut K,
 ) -> Result<(), Stop>
-    requires { book.now.cleaned ≤ view.now.max_root }
-    ensures ok { (start : State) (history : List machine.Event) → Stands book.now start history
-        → OnOk result (Appends (K.taken sink.old) (K.taken sink.new) (answer_line (answer (state_after start history) view.now key.now.0))) }
-    ensures err { (start : State) (history : List machine.Event) → Stands book.now start history
-        → OnErr result (AppendsFront (K.taken sink.old) (K.taken sink.new) (answer_line (answer (state_after start history) view.now key.now.0))) }
+    ensures ok { OnOk result (Appends (K.taken sink.old) (K.taken sink.new) (read_line (key.now, answer.now))) }
+    ensures err { OnErr result (AppendsFront (K.taken sink.old) (K.taken sink.new) (read_line (key.now, answer.now))) }
     ensures counts { HasStopCause (K.faults sink.old) (K.faults sink.new) result }
 {
-    match book.peek(view, key) {
-        Ok(Some(found)) => {
-            let line = printer.print_account(key, found.slot, &found.head, found.data)?;
-            write_whole(sink, line)?;
-            Ok(())
-        }
-        Ok(None) => Ok(()),
-        Err(ViewTooOld { .. }) => unreachable!(),
+    if let Some(found) = answer {
+        let line = printer.print_account(key, found.slot, &found.head, found.data)?;
+        write_whole(sink, line)?;
     }
+    Ok(())
+}
+
+// Hands the lines of what was read of some keys to the sink.
+fn write_batch<K: Sink>(
+    batch: &[(Key, Option<Answer<'_>>)],
+    printer: &mut JournalPrinter,
+    sink: &mut K,
+) -> Result<(), Stop>
+    ensures ok { OnOk result (Appends (K.taken sink.old) (K.taken sink.new) (flat_map read_line batch.now)) }
+    ensures err { OnErr result (AppendsFront (K.taken sink.old) (K.taken sink.new) (flat_map read_line batch.now)) }
+    ensures counts { HasStopCause (K.faults sink.old) (K.faults sink.new) result }
+{
+    for (key, answer) in batch {
+        write_answer(key, answer, printer, sink)?;
+    }
+    Ok(())
 }
 
 // Hands the lines of all accounts at a slot, by rising key, to the sink.
@@ -63,18 +70,21 @@ fn write_answers<K: Sink>(
         → OnOk result ((found : List Stored) × AreAnswers (state_after start history) view.now.max_root found
         × Appends (K.taken sink.old) (K.taken sink.new) (flat_map line_of found)) }
     ensures err { (start : State) (history : List machine.Event) → Stands book.now start history
-        → OnErr result ((next : Option (List ℕ)) × (found : List Stored) × AreAnswersBelow next (state_after start history) view.now.max_root found
+        → OnErr result ((found : List Stored) × AreAnswers (state_after start history) view.now.max_root found
         × AppendsFront (K.taken sink.old) (K.taken sink.new) (flat_map line_of found)) }
     ensures counts { HasStopCause (K.faults sink.old) (K.faults sink.new) result }
 {
-    present_pairs_answer();
-    book.has_history();
-    let mut next = book.key_after(None);
-    while let Some(key) = next {
-        next = book.key_after(Some(&key));
-        write_answer(book, view, &key, printer, sink)?;
+    let Ok(mut accounts) = book.accounts(view) else {
+        unreachable!()
+    };
+    let mut batch = Batch::new();
+    loop {
+        accounts.read_on(&mut batch);
+        if batch.is_empty() {
+            return Ok(());
+        }
+        write_batch(batch.as_slice(), printer, sink)?;
     }
-    Ok(())
 }
 
 // Hands the lines of a snapshot that was opened to the sink.

@@ -1,5 +1,5 @@
 -- The last of a list that passes a test, by its place and by recursion.
-use Rattle.std.proofs.Common.{◌≡◌, ℕ, zero, suc, ◌+◌, ◌<◌, ◌≤◌, List, [], ◌∷◌, length, get_or, map, Bool, true, false, cond, ◌||◌, refl, sym, ap, ◌∙◌, inl, inr, arith}
+use Rattle.std.proofs.Common.{◌≡◌, ℕ, zero, suc, ◌<◌, List, [], ◌∷◌, length, map, Bool, true, false, cond, ◌||◌, refl, sym, ap, ◌∙◌, inl, inr, arith}
 use Rattle.std.specs.List.{list_any, remove, AllWithin, HoldsAt}
 use Rattle.std.proofs.lemmas.Bool.{cases_Bool, true≢false, or_right}
 use Rattle.std.proofs.lemmas.List.Folds.{list_any_none}

@@ -13,3 +13,5 @@ mod SnapImages
 mod SnapPins
 mod SnapRefusals
 mod Told
+mod ListedKeys
+mod Reading

@@ -1,5 +1,5 @@
 -- The account that a look into a book tells.
-use Rattle.std.proofs.Common.{◌≡◌, ℕ, List, Bool, true, false, cond, eqb, Option, Some, None, refl, sym, ap, ◌∙◌, subst, inl, inr, ◌⊎◌, option_and_then}
+use Rattle.std.proofs.Common.{◌≡◌, ℕ, List, Bool, true, false, cond, eqb, Option, Some, None, sym, ap, ◌∙◌, subst, inl, inr, ◌⊎◌, option_and_then}
 use Rattle.std.proofs.lemmas.Bool.{cases_Bool, true≢false}
 use Rattle.adb_model.specs.Account.{Account, is_tomb, tomb}
 use Rattle.adb_model.specs.View.{View}

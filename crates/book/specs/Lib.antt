@@ -2,6 +2,7 @@ pub mod Inside
 pub mod Pinned
 pub mod Replies
 pub mod Answers
+pub mod Listing
 pub mod Flushing
 pub mod Leasing
 pub mod Shrinking

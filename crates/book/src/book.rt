@@ -1,5 +1,10 @@
-ghost use Rattle.std.specs.Prelude.{◌≡◌, ◌<◌, ◌≤◌, ◌↔◌, ℕ, List, [], length, map, Some, option_map, IfOk, IfErr, IsErr, IfSome};
-ghost use Rattle.accounts_index.specs.Index.{crowded_after};
+ghost use Rattle.std.specs.Prelude.{◌≡◌, ◌≢◌, ◌<◌, ◌≤◌, ◌↔◌, ℕ, List, [], length, map, Some, None, option_map, IfOk, IfErr, IsErr, IfSome, AllPairs, Contains};
+ghost use Rattle.std.specs.declared.cmp.Ordering.TheVariants.{Less};
+ghost use Rattle.slot_list.specs.Versions.{at};
+ghost use Rattle.slot_list.specs.Latest.{sees, IsLatest};
+ghost use Rattle.accounts_index.specs.Index.{kept, crowded_after};
+ghost use Rattle.adb_model.specs.View.{View};
+ghost use Rattle.adb_model.specs.Reclaimable.{key_cmp};
 ghost use Rattle.adb_model.specs.State.{State, fresh};
 ghost use Rattle.adb_model.specs.Opened.{opened};
 ghost use Rattle.adb_model.specs.Call as machine;
@@ -20,10 +25,12 @@ ghost use Rattle.pass_pins.specs.Pins.{without_one};
 ghost use Rattle.book.specs.Replies.{store_reply, root_reply, purge_reply, load_reply, unpin_reply, lease_reply, end_lease_reply, raise_reply, reclaim_reply, flush_reply, shrink_reply, shrink_end_reply, snap_reply};
 ghost use Rattle.open_plan.specs.Causes.{IsWhyNotRebuilt};
 ghost use Rattle.book.specs.Answers.{told};
+ghost use Rattle.book.specs.Listing.{IsSeen};
 ghost use Rattle.book.specs.Pinned.{IsThere, pins_after};
 
 use crate::flushing::{spent, why_not};
 use crate::leasing::{self, Lease, why_not_raised};
+use crate::listing::Accounts;
 use crate::loading::{Answer, Found, FoundAt, latest};
 use crate::pinning::{Cells, Held, pin};
 use crate::purging::leave;
@@ -49,7 +56,7 @@ use flush_plan::FlushJob;
 use open_plan::RebuildFault;
 use pass_pins::{MAX_PINS, PassPins};
 use shrink_plan::ShrinkJob;
-use slot_list::Place;
+use slot_list::{Place, SlotList, Version};
 use std::alloc::{AllocError, Global};
 use std::marker::Model;
 use std::sync::Arc;
@@ -266,48 +273,69 @@ impl Book {
         }
     }
 
-    /// What a view sees of a key, read where it stands while the book is held still: `None` where it sees no
-    /// account. Nothing is pinned, and no memory is taken.
+    /// All keys by rising key, each with what a view sees of it, read where it stands while the book is held still.
+    /// Each key that has an account to the view is among them. Nothing is pinned, and no memory is taken.
     ///
     /// # Errors
     /// `ViewTooOld` exactly where the view's greatest root is below the slot up to which was cleaned.
-    pub fn peek(&self, view: &View, key: &Key) -> Result<Option<Answer<'_>>, ViewTooOld>
-        ensures answered { (m0 : State) (h : List machine.Event) → Stands self.now m0 h
-            → IfOk result (λ found. option_map (told key.now.0) found ≡ answer (state_after m0 h) view.now key.now.0) }
+    pub fn accounts<'a>(&'a self, view: &'a View) -> Result<Accounts<'a>, ViewTooOld>
+        ensures book { IfOk result (λ listing. listing.book ≡ self.now) }
+        ensures view { IfOk result (λ listing. listing.view ≡ view.now) }
+        ensures rise { IfOk result (λ listing. AllPairs (λ a b. key_cmp a b ≡ Less) listing.keys) }
+        ensures every { (m0 : State) (h : List machine.Event) (key : List ℕ) → Stands self.now m0 h
+            → answer (state_after m0 h) view.now key ≢ None → IfOk result (λ listing. Contains listing.keys key) }
         ensures too_old { IsErr result ↔ (view.now.max_root < self.now.cleaned) }
         ensures refusal { IfErr result (λ refusal. refusal ≡ record { max_root = view.now.max_root; cleaned = self.now.cleaned }) }
     {
-        load_stands();
-        stored_load_stands();
         latest_versions_answer();
         let max_root = view.max_root();
         if max_root < self.cleaned {
             let cleaned = self.cleaned;
             return Err(ViewTooOld { max_root, cleaned });
         }
-        let Some(version) = latest(&self.index, &self.roots, view, key) else {
-            return Ok(None);
+        Ok(Accounts::new(self, view, self.index.iter()))
+    }
+
+    /// The version that a view sees among those of a key.
+    pub(crate) fn latest_of(&self, view: &View, list: &SlotList) -> Option<Version>
+        ensures { IsLatest (sees view.now.ancestors self.now.roots view.now.max_root) list.now.versions result }
+    {
+        list.latest(view.ancestors(), &self.roots, view.max_root())
+    }
+
+    /// The account that a version of a key is, read where it stands; `None` for a tomb and for no version. Where it is
+    /// the version that a view sees, this is what the view sees.
+    pub(crate) fn read(&self, key: &Key, seen: Option<Version>) -> Option<Answer<'_>>
+        requires { IfSome seen (λ version. at version.slot (kept self.now.index key.now.0).versions ≡ Some version) }
+        ensures { (m0 : State) (h : List machine.Event) (view : View) → Stands self.now m0 h → self.now.cleaned ≤ view.max_root
+            → IsSeen self.now view key.now.0 seen → option_map (told key.now.0) result ≡ answer (state_after m0 h) view key.now.0 }
+    {
+        load_stands();
+        stored_load_stands();
+        latest_versions_answer();
+        let Some(version) = seen else {
+            return None;
         };
         if version.tomb {
-            return Ok(None);
+            return None;
         }
         let slot = version.slot;
         match version.place {
             Place::Cached => match self.cache.get(slot, key) {
-                Some(account) => Ok(Some(Answer {
+                Some(account) => Some(Answer {
                     slot,
                     head: account.head(),
                     data: account.data(),
-                })),
+                }),
                 None => unreachable!(),
             },
             Place::Stored { cell, offset } => {
                 let record = self.cells.get(cell).record_at(offset);
-                Ok(Some(Answer {
+                Some(Answer {
                     slot,
                     head: record.head,
                     data: record.body,
-                }))
+                })
             }
         }
     }

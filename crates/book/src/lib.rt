@@ -8,6 +8,7 @@ mod book;
 mod cleaning_tests;
 mod flushing;
 mod leasing;
+mod listing;
 mod loading;
 #[cfg(test)]
 mod opening_tests;
@@ -24,6 +25,7 @@ mod storing;
 mod tests;
 
 pub use book::{Book, MAX_STORAGES};
+pub use listing::{Accounts, BATCH, Batch};
 pub use loading::{Answer, Found, FoundAt};
 pub use open_plan::RebuildFault;
 pub use refusals::{

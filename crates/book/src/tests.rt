@@ -1,7 +1,9 @@
 ghost use Rattle.std.specs.Prelude.{IfOk, OnOk};
 ghost use Rattle.book_parts.specs.Stands.{HasHistoryWithPins};
 
-use crate::{Book, FlushRefusal, Found, FoundAt, NotPinned, RootRefusal, Rooted, StoreRefusal};
+use crate::{
+    Batch, Book, FlushRefusal, Found, FoundAt, NotPinned, RootRefusal, Rooted, StoreRefusal,
+};
 use adb_model::{Account, Key, View};
 use append_vec::fill;
 use book_parts::{pins_are_held, pins_stay};
@@ -249,5 +251,43 @@ fn the_last_id_is_not_given(rt: HostRuntime) -> Result<(), Fail> {
     assert!(rt; flushed(&rt, &mut book, 1)?);
     assert_eq!(rt; book.flush_begin(2).err(), Some(FlushRefusal::IdsSpent));
     assert_eq!(rt; (book.stats().live, book.stats().bytes), (1, 136));
+    Ok(())
+}
+
+// The account of key 7 is a tomb. The view doesn't see slot 6, in which key 3 is stored again, and key 50 alone.
+#[test]
+fn accounts_come_by_rising_key_in_batches(rt: HostRuntime) -> Result<(), Fail> {
+    let alloc = rt.alloc();
+    let mut book = Book::new(alloc, 100_000, 1)?;
+    for before_last in 0..40 {
+        let first = 39 - before_last;
+        let lamports = if first == 7 { 0 } else { u64::from(first) + 1 };
+        book.store(5, key(first), account(alloc, lamports)?)?;
+    }
+    for first in [3, 50] {
+        book.store(6, key(first), account(alloc, 100)?)?;
+    }
+    for slot in [5, 6] {
+        assert_eq!(rt; book.root(slot), Ok(()));
+    }
+    assert!(rt; flushed(&rt, &mut book, 5)?);
+    let view = View::new(alloc, &[], 5)?;
+    let Ok(mut accounts) = book.accounts(&view) else {
+        return Err("too old")?;
+    };
+    let mut batch = Batch::new();
+    let mut last = None;
+    for expected in [32, 9, 0] {
+        accounts.read_on(&mut batch);
+        assert_eq!(rt; batch.len(), expected);
+        for (key, answer) in batch.as_slice() {
+            let first = key.0[0];
+            assert!(rt; last < Some(first));
+            last = Some(first);
+            let found = answer.map(|found| (found.slot, found.head.lamports));
+            let seen = first < 40 && first != 7;
+            assert_eq!(rt; found, seen.then_some((5, u64::from(first) + 1)));
+        }
+    }
     Ok(())
 }

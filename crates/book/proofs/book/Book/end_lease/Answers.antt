@@ -1,5 +1,4 @@
-use Rattle.std.proofs.Common.{◌≡◌, ℕ, List, [], ◌∷◌, ◌++◌, Some, true, false, sym, ◌∙◌, subst}
-use Rattle.std.specs.List.{list_any}
+use Rattle.std.proofs.Common.{List, Some, sym, ◌∙◌, subst}
 use Rattle.adb_model.specs.State as machine_state
 use Rattle.adb_model.specs.State.{State}
 use Rattle.adb_model.specs.Leases.{is_lease}

@@ -1,4 +1,4 @@
-use Rattle.std.proofs.Common.{ℕ, List, [], ◌∷◌, ◌++◌, sym, subst, arith}
+use Rattle.std.proofs.Common.{List, [], ◌∷◌, ◌++◌, sym, subst, arith}
 use Rattle.adb_model.specs.State as machine_state
 use Rattle.adb_model.specs.State.{State}
 use Rattle.adb_model.specs.Call as machine

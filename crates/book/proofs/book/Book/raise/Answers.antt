@@ -1,6 +1,5 @@
 use Rattle.std.proofs.Common.{◌≡◌, ℕ, max, List, map, Option, Some, None, Err, sym, subst, refl}
 use Rattle.adb_model.specs.Lists.{least}
-use Rattle.adb_model.specs.State as machine_state
 use Rattle.adb_model.specs.State.{State}
 use Rattle.adb_model.specs.Call as machine
 use Rattle.book_parts.specs.Parts.{Parts}

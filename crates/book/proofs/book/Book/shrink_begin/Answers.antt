@@ -1,11 +1,10 @@
-use Rattle.std.proofs.Common.{◌≡◌, ℕ, ◌+◌, List, true, Option, Some, None, Ok, Err, sym, ap, ◌∙◌, subst}
+use Rattle.std.proofs.Common.{◌≡◌, ◌+◌, true, Option, Some, Ok, Err, sym, ap, subst}
 use Rattle.std.specs.Prelude.{Result, IsSomeAnd}
 use Rattle.std.specs.Result.{IsErr, IsErrAnd}
 use Rattle.cell_table.specs.Phases.{is_live}
 use Rattle.cell_table.specs.Cells.{Table, cell_at}
 use Rattle.storage_map.specs.declared.entry.Live.{Live}
 use Rattle.storage_map.specs.Slots.{Slots}
-use Rattle.adb_model.specs.State.{State}
 use Rattle.adb_model.specs.Storages.{bytes_of}
 use Rattle.adb_model.specs.Call as machine
 use Rattle.adb_model.specs.History.{state_after}

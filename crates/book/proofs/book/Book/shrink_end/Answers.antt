@@ -1,4 +1,4 @@
-use Rattle.std.proofs.Common.{◌≡◌, ℕ, List, true, false, Some, sym, ◌∙◌, subst}
+use Rattle.std.proofs.Common.{ℕ, List, Some, sym, ◌∙◌, subst}
 use Rattle.adb_model.specs.State.{State}
 use Rattle.adb_model.specs.Call as machine
 use Rattle.adb_model.specs.History.{state_after}
